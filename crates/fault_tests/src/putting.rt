@@ -4,7 +4,9 @@ use crate::checks::same_list;
 use gw_map::DEFAULT_SETTINGS;
 use std::process::Abort;
 use std::sync::atomic::AtomicBool;
-use test_tools::{Batch, Client, Hub, HubSource, Put, Reply, hub_on, put_out, replies_of};
+use test_tools::{
+    Batch, Client, Hub, Machine, MachineSource, Put, Reply, hub_on, put_out, replies_of,
+};
 
 /// What comes before the run: a client that interrogates the station.
 const STEPS: &str = "open 0 0
@@ -68,8 +70,8 @@ fn is_end(ended: &Put, is_whole: bool) -> bool {
 
 /// Hands a run over to a writer.
 fn put(hub: Hub, writer: &mut Client<'_>) -> Put {
-    let mut source = HubSource {
-        hub,
+    let mut source = MachineSource {
+        machine: hub,
         client: 0,
         moment: 0,
     };

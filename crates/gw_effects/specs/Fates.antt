@@ -1,4 +1,4 @@
--- What becomes of orders in a step: of those that it may end without an answer, those have ended that the hub hasn't
+-- What becomes of orders in a step: of those that it may end without an answer, those have ended that the machine hasn't
 -- any more behind it.
 use Rattle.std.specs.Prelude.{◌≡◌, ℕ, not, List, map, IsPermutation}
 use Rattle.std.specs.List.{filter}
@@ -13,7 +13,7 @@ pub record Fates : Type 0 where
   -- how many orders there were before it
   pub before : ℕ
 
--- those of them that the hub hasn't any more
+-- those of them that the machine hasn't any more
 abbrev pub ended : State → List AtStake → List AtStake
 ended s xs = filter (λ x. not (is_on_its_way s x.settled.outstation x.settled.order)) xs
 

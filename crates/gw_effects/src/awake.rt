@@ -1,7 +1,7 @@
 //! Which writers needn't be rung for.
 
 use crate::roused::{Roused, Topic};
-use gw_hub::{Reply, StepFault};
+use gw_steps::{Reply, StepFault};
 
 /// The writers of clients that are awake: each that was rung for and hasn't been told since that nothing is due. It
 /// asks again before it sleeps, so whoever steps meanwhile needn't ring.

@@ -1,4 +1,4 @@
-//! What becomes of orders, by what the hub has of them before and behind each step.
+//! What becomes of orders, by what a machine has of them before and behind each step.
 ghost use Rattle.std.specs.Prelude.{◌≡◌, [], ◌++◌};
 ghost use Rattle.gw_steps.specs.Controls.{is_on_its_way};
 ghost use Rattle.gw_effects.specs.Fates.{ended, fates_of, TellsEnded};
@@ -6,8 +6,8 @@ ghost use Rattle.gw_control.specs.Effects.{accepted_since};
 
 use crate::roused::{CLIENTS, OUTSTATIONS, Topic};
 use gw_control::{Fate, OrderCounts, Orders, Settled};
-use gw_hub::{Accepted, Hub, Outgoing, Reply, StepFault, Verdict};
 use gw_model::Memory;
+use gw_steps::{Accepted, Machine, Outgoing, Reply, StepFault, Verdict};
 use std::alloc::Global;
 use std::marker::Model;
 
@@ -36,7 +36,7 @@ impl AtStake {
 }
 
 /// How many orders there were for each outstation; and, while a step is made, those that it may end without an answer.
-/// Which orders there are the hub knows: one of these that it hasn't behind the step has ended.
+/// Which orders there are the machine knows: one of these that it hasn't behind the step has ended.
 #[derive(Drop)]
 pub struct Fates {
     counts: [OrderCounts; OUTSTATIONS as usize],
@@ -68,26 +68,26 @@ impl Fates {
         self.counts
     }
 
-    /// A step about this is to be made on a hub.
-    pub fn foresee(&mut self, topic: Topic, hub: &Hub)
-        ensures { self.new.before ≡ hub.now.state.controls.ordered }
+    /// A step about this is to be made on a machine.
+    pub fn foresee<M: Machine>(&mut self, topic: Topic, machine: &M)
+        ensures { self.new.before ≡ (M.seen machine.now).state.controls.ordered }
     {
         self.at_stake.clear();
         match topic {
-            Topic::Loss(outstation) => self.add_lost(outstation, hub),
-            Topic::Client(client) => self.add_let_go(Some(client), hub),
+            Topic::Loss(outstation) => self.add_lost(outstation, machine),
+            Topic::Client(client) => self.add_let_go(Some(client), machine),
             Topic::Tick => {
-                self.add_let_go(None, hub);
-                self.add_unanswered(hub);
+                self.add_let_go(None, machine);
+                self.add_unanswered(machine);
             }
             Topic::Poll(_) | Topic::Pump(_) | Topic::Fragment(_) | Topic::Up(_) => {}
         }
-        self.before = hub.orders();
+        self.before = machine.orders();
     }
 
     /// The orders of an outstation that is lost: the one under way to it, and those that wait for it.
-    fn add_lost(&mut self, outstation: u8, hub: &Hub) {
-        let Some(outgoing) = hub.outgoing().get(usize::from(outstation)) else {
+    fn add_lost<M: Machine>(&mut self, outstation: u8, machine: &M) {
+        let Some(outgoing) = machine.outgoing().get(usize::from(outstation)) else {
             return;
         };
         if let Some(under_way) = outgoing.under_way() {
@@ -99,8 +99,8 @@ impl Fates {
     }
 
     /// The orders that wait of a client, or of all, where its session ends.
-    fn add_let_go(&mut self, client: Option<u8>, hub: &Hub) {
-        for outgoing in hub.outgoing() {
+    fn add_let_go<M: Machine>(&mut self, client: Option<u8>, machine: &M) {
+        for outgoing in machine.outgoing() {
             if !outgoing.waiting().is_empty() {
                 self.add_waiting(client, outgoing);
             }
@@ -117,8 +117,8 @@ impl Fates {
     }
 
     /// The orders under way, where no answer came in time.
-    fn add_unanswered(&mut self, hub: &Hub) {
-        for outgoing in hub.outgoing() {
+    fn add_unanswered<M: Machine>(&mut self, machine: &M) {
+        for outgoing in machine.outgoing() {
             if let Some(under_way) = outgoing.under_way() {
                 self.add(under_way.accepted, Fate::Unanswered);
             }
@@ -138,32 +138,32 @@ impl Fates {
         });
     }
 
-    /// The step was made, which left the hub so.
-    pub fn note(
+    /// The step was made, which left the machine so.
+    pub fn note<M: Machine>(
         &mut self,
         topic: Topic,
         reply: &Result<Reply, StepFault>,
-        hub: &Hub,
+        machine: &M,
         orders: &mut Orders,
     )
-        ensures accepted { orders.new.accepted ≡ accepted_since self.old.before hub.now.state.controls.ordered }
+        ensures accepted { orders.new.accepted ≡ accepted_since self.old.before (M.seen machine.now).state.controls.ordered }
         // Where there was memory for all.
         ensures settled { orders.new.left_out ≡ 0
-            → TellsEnded hub.now.state self.old.at_stake orders.new.settled }
+            → TellsEnded (M.seen machine.now).state self.old.at_stake orders.new.settled }
     {
-        orders.begin(self.before, hub.orders());
+        orders.begin(self.before, machine.orders());
         if let Some(order) = orders.accepted() {
-            self.accept(order, hub);
+            self.accept(order, machine);
         }
         self.answer(topic, reply);
-        self.settle(hub, orders);
+        self.settle(machine, orders);
     }
 
     /// An order of this number was accepted: it is the last that waits for its outstation.
-    fn accept(&mut self, order: u64, hub: &Hub)
+    fn accept<M: Machine>(&mut self, order: u64, machine: &M)
         ensures { self.new ≡ self.old }
     {
-        for (counts, outgoing) in self.counts.iter_mut().zip(hub.outgoing()) {
+        for (counts, outgoing) in self.counts.iter_mut().zip(machine.outgoing()) {
             if is_last(order, outgoing) {
                 counts.accept();
             }
@@ -193,23 +193,23 @@ impl Fates {
     }
 
     /// What was at stake and isn't on its way any more has ended.
-    fn settle(&mut self, hub: &Hub, orders: &mut Orders)
+    fn settle<M: Machine>(&mut self, machine: &M, orders: &mut Orders)
         requires { orders.old.settled ≡ [] }
         ensures accepted { orders.new.accepted ≡ orders.old.accepted }
         ensures settled { orders.new.left_out ≡ 0
-            → TellsEnded hub.now.state self.old.at_stake orders.new.settled }
+            → TellsEnded (M.seen machine.now).state self.old.at_stake orders.new.settled }
     {
-        keep_ended(&mut self.at_stake, hub);
+        keep_ended(&mut self.at_stake, machine);
         self.at_stake.sort_unstable_by_key(|stake| stake.rank());
         tell(self.at_stake.as_slice(), &mut self.counts, orders);
     }
 }
 
 /// Those stay that aren't on their way any more.
-fn keep_ended(at_stake: &mut Vec<AtStake>, hub: &Hub)
-    ensures { at_stake.new.items ≡ ended hub.now.state at_stake.old.items }
+fn keep_ended<M: Machine>(at_stake: &mut Vec<AtStake>, machine: &M)
+    ensures { at_stake.new.items ≡ ended (M.seen machine.now).state at_stake.old.items }
 {
-    at_stake.retain(|stake| !is_on_its_way(&stake.settled, hub));
+    at_stake.retain(|stake| !is_on_its_way(&stake.settled, machine));
 }
 
 /// These ended, one after the other.
@@ -233,10 +233,10 @@ fn is_last(order: u64, outgoing: &Outgoing) -> bool {
 }
 
 /// Whether an order waits for its outstation, or is under way to it.
-fn is_on_its_way(settled: &Settled, hub: &Hub) -> bool
-    ensures { result ≡ is_on_its_way hub.now.state settled.now.outstation settled.now.order }
+fn is_on_its_way<M: Machine>(settled: &Settled, machine: &M) -> bool
+    ensures { result ≡ is_on_its_way (M.seen machine.now).state settled.now.outstation settled.now.order }
 {
-    match hub.outgoing().get(usize::from(settled.outstation)) {
+    match machine.outgoing().get(usize::from(settled.outstation)) {
         Some(outgoing) => outgoing.has(settled.order),
         None => false,
     }

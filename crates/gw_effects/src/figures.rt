@@ -4,7 +4,7 @@ use crate::dropped::Dropped;
 use crate::fates::Fates;
 use crate::roused::{CLIENTS, OUTSTATIONS};
 use gw_control::OrderCounts;
-use gw_hub::Hub;
+use gw_steps::Machine;
 
 /// How many calls were made, how many observations were news, what waits for clients, and what became of orders.
 #[derive(Clone, Copy)]
@@ -24,21 +24,21 @@ pub struct Figures {
 }
 
 impl Figures {
-    /// Those of a hub on which so many calls were made, with what was dropped in data transfers that have ended, and
+    /// Those of a machine on which so many calls were made, with what was dropped in data transfers that have ended, and
     /// with what became of orders.
-    pub fn of(calls: u64, hub: &Hub, dropped: &Dropped, fates: &Fates) -> Figures {
+    pub fn of<M: Machine>(calls: u64, machine: &M, dropped: &Dropped, fates: &Fates) -> Figures {
         let mut queued = [0; 8];
         let mut unacknowledged = [0; 8];
         for client in 0..CLIENTS {
-            queued[usize::from(client)] = hub.queued(client);
-            unacknowledged[usize::from(client)] = hub.unacknowledged(client);
+            queued[usize::from(client)] = machine.queued(client);
+            unacknowledged[usize::from(client)] = machine.unacknowledged(client);
         }
         Figures {
             calls,
-            news: hub.news(),
+            news: machine.news(),
             queued,
             unacknowledged,
-            dropped: dropped.in_all(hub),
+            dropped: dropped.in_all(machine),
             orders: fates.counts(),
         }
     }

@@ -1,4 +1,4 @@
-//! What steps on a hub do besides their replies: which workers they serve, what is dropped for clients, whether clients
+//! What steps of a machine do besides their replies: which workers they serve, what is dropped for clients, whether clients
 //! keep up, and what becomes of orders.
 #![tactic(auto)]
 
@@ -14,6 +14,6 @@ pub use dropped::{Dropped, Watch};
 pub use fates::Fates;
 pub use figures::Figures;
 pub use gw_control::{Fate, OrderCounts, Orders, Settled};
-pub use gw_hub::{Apdu, ApduBuf, Counts, Hub, Reply, Step, StepFault, Verdict, Why};
+pub use gw_steps::{Apdu, ApduBuf, Machine, Reply, Step, StepFault, Verdict, Why};
 pub use pace::{Load, Pace};
 pub use roused::{CLIENTS, OUTSTATIONS, Roused, Topic};

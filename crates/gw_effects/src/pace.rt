@@ -1,7 +1,7 @@
 //! Whether clients keep up with the news.
 
 use crate::roused::CLIENTS;
-use gw_hub::Hub;
+use gw_steps::Machine;
 
 /// The milliseconds behind its last APDU in which a client counts as one that reads.
 const READS_MS: u64 = 1000;
@@ -17,18 +17,18 @@ pub struct Load {
 
 impl Load {
     /// That of a fragment with so many observations, which was taken last.
-    pub fn of(size: u64, hub: &Hub) -> Load {
+    pub fn of<M: Machine>(size: u64, machine: &M) -> Load {
         Load {
-            news: hub.news(),
+            news: machine.news(),
             size,
         }
     }
 
     /// Whether a client waits for any news up to these, and half of its queue has no room for as many once more.
-    fn weighs_on(&self, client: u8, hub: &Hub) -> bool {
-        let queued = hub.queued(client) as u64;
-        let newer = hub.news().saturating_sub(self.news);
-        newer < queued && queued.saturating_add(self.size) > u64::from(hub.queue_limit() / 2)
+    fn weighs_on<M: Machine>(&self, client: u8, machine: &M) -> bool {
+        let queued = machine.queued(client) as u64;
+        let newer = machine.news().saturating_sub(self.news);
+        newer < queued && queued.saturating_add(self.size) > u64::from(machine.queue_limit() / 2)
     }
 }
 
@@ -54,9 +54,9 @@ impl Pace {
     }
 
     /// Whether a client that reads doesn't keep up with a fragment.
-    pub fn is_outrun(&self, load: Load, hub: &Hub, moment: u64) -> bool {
+    pub fn is_outrun<M: Machine>(&self, load: Load, machine: &M, moment: u64) -> bool {
         for (client, given) in (0..CLIENTS).zip(self.given) {
-            if reads(given, moment) && load.weighs_on(client, hub) {
+            if reads(given, moment) && load.weighs_on(client, machine) {
                 return true;
             }
         }

@@ -1,6 +1,6 @@
 //! Whom a step may serve.
 
-use gw_hub::{Hub, Reply, Step, StepFault, Verdict};
+use gw_steps::{Machine, Reply, Step, StepFault, Verdict};
 
 /// How many outstations there can be.
 pub const OUTSTATIONS: u8 = 32;
@@ -68,33 +68,38 @@ impl Roused {
         }
     }
 
-    /// Whom a step serves that left the hub so with this reply, and accepted an order or didn't: the writer of a peer
+    /// Whom a step serves that left the machine so with this reply, and accepted an order or didn't: the writer of a peer
     /// that came, went or had its connection closed; besides these, whoever has something to hand over now. A step with
     /// a fault, and a fragment that wasn't accepted, serve nobody.
-    pub fn by(topic: Topic, reply: &Result<Reply, StepFault>, ordered: bool, hub: &Hub) -> Roused {
+    pub fn by<M: Machine>(
+        topic: Topic,
+        reply: &Result<Reply, StepFault>,
+        ordered: bool,
+        machine: &M,
+    ) -> Roused {
         match (topic, reply) {
             (_, Err(_) | Ok(Reply::Verdict(Verdict::Repeated { .. } | Verdict::Ignored(_)))) => {
                 Roused::nobody()
             }
             (_, Ok(Reply::Ticked { closed })) => Roused {
-                outstations: due_outstations(hub),
-                clients: closed | due_clients(hub),
+                outstations: due_outstations(machine),
+                clients: closed | due_clients(machine),
             },
             (Topic::Fragment(outstation), Ok(_)) => Roused {
-                outstations: if hub.is_poll_due(outstation) {
+                outstations: if machine.is_poll_due(outstation) {
                     outstation_bit(outstation)
                 } else {
                     0
                 },
-                clients: due_clients(hub),
+                clients: due_clients(machine),
             },
             (Topic::Up(outstation) | Topic::Loss(outstation), Ok(_)) => Roused {
                 outstations: outstation_bit(outstation),
-                clients: due_clients(hub),
+                clients: due_clients(machine),
             },
             (Topic::Client(client), Ok(reply)) => Roused {
-                outstations: if ordered { due_outstations(hub) } else { 0 },
-                clients: served_client(client, reply, hub),
+                outstations: if ordered { due_outstations(machine) } else { 0 },
+                clients: served_client(client, reply, machine),
             },
             (Topic::Poll(_) | Topic::Pump(_) | Topic::Tick, Ok(_)) => Roused::nobody(),
         }
@@ -155,16 +160,16 @@ fn client_bit(client: u8) -> u8 {
 }
 
 /// The client itself, unless an APDU of it was taken that makes nothing due.
-fn served_client(client: u8, reply: &Reply, hub: &Hub) -> u8 {
+fn served_client<M: Machine>(client: u8, reply: &Reply, machine: &M) -> u8 {
     match reply {
-        Reply::Taken => due_client(hub, client),
+        Reply::Taken => due_client(machine, client),
         _ => client_bit(client),
     }
 }
 
 /// The client, where something is to be handed over for it.
-fn due_client(hub: &Hub, client: u8) -> u8 {
-    if hub.is_pump_due(client) {
+fn due_client<M: Machine>(machine: &M, client: u8) -> u8 {
+    if machine.is_pump_due(client) {
         client_bit(client)
     } else {
         0
@@ -172,10 +177,10 @@ fn due_client(hub: &Hub, client: u8) -> u8 {
 }
 
 /// The outstations towards which a request is due.
-fn due_outstations(hub: &Hub) -> u32 {
+fn due_outstations<M: Machine>(machine: &M) -> u32 {
     let mut due = 0;
     for outstation in 0..OUTSTATIONS {
-        if hub.is_poll_due(outstation) {
+        if machine.is_poll_due(outstation) {
             due |= outstation_bit(outstation);
         }
     }
@@ -183,10 +188,10 @@ fn due_outstations(hub: &Hub) -> u32 {
 }
 
 /// The clients for which something is to be handed over.
-fn due_clients(hub: &Hub) -> u8 {
+fn due_clients<M: Machine>(machine: &M) -> u8 {
     let mut due = 0;
     for client in 0..CLIENTS {
-        due |= due_client(hub, client);
+        due |= due_client(machine, client);
     }
     due
 }

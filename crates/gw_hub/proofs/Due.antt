@@ -19,9 +19,7 @@ use Rattle.gw_steps.specs.declared.step.Step.TheVariants as steps
 use Rattle.gw_steps.specs.State.{State, later}
 use Rattle.gw_steps.specs.Controls.{order_for}
 use Rattle.gw_steps.specs.Steps.{client_reply, client_up, latest, outstation_reply, reply_asking, reply_giving, reply_to, request_polled}
-use Rattle.gw_hub.specs.Hub.{is_poll_due}
-use Rattle.gw_parts.specs.Clients.{has_offer}
-use Rattle.gw_hub.specs.Queries.{gives_apdu, is_due}
+use Rattle.gw_steps.specs.Queries.{gives_apdu, has_offer, is_due, is_poll_due}
 
 -- ---- the wall time makes no difference
 

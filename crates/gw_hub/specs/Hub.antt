@@ -1,5 +1,5 @@
 -- What a hub keeps, and what its calls do.
-use Rattle.std.specs.Prelude.{◌≡◌, ℕ, ◌+◌, ◌*◌, ◌^◌, ◌<◌, ◌≤◌, Bool, true, false, ◌==◌, ◌||◌, is_some, List, [], length, slice_get, Option, Some, None, Result, Ok, Err, IfSome, if◌then◌else◌}
+use Rattle.std.specs.Prelude.{◌≡◌, ℕ, ◌+◌, ◌*◌, ◌^◌, ◌<◌, ◌≤◌, Bool, true, false, ◌==◌, is_some, List, [], length, slice_get, Option, Some, None, Result, Ok, Err, IfSome, if◌then◌else◌}
 use Rattle.std.specs.List.{AllByRecursion}
 use Rattle.gw_model.specs.declared.point.Report.{Report}
 use Rattle.gw_map.specs.Settings.{Setup, station_clocks}
@@ -28,7 +28,6 @@ use Rattle.gw_steps.specs.declared.step.StepFault.{StepFault}
 use Rattle.gw_steps.specs.Controls.{controls_after_taken, is_control_up, order_due, said_by, said_of_outcome}
 use Rattle.gw_steps.specs.Sound.{IsSoundState}
 use Rattle.gw_hub.specs.declared.orders.Sender.{Sender}
-use Rattle.gw_hub.specs.Queries.{is_due}
 use Rattle.gw_hub.specs.declared.tally.Counts.{Counts}
 use Rattle.gw_steps.specs.State.{Hub, State, Counts as Tally}
 use Rattle.gw_steps.specs.Steps.{Allowed, can_rise, raised, latest, parts_after_fragment}
@@ -46,11 +45,6 @@ pub record IsKept (setup : Setup) (s : State) (came : ℕ) : Type 0 where
   pub sound : IsSoundState setup s
   pub sessions : AllByRecursion KeepsToSession s.clients
   pub news : came ≡ s.counts.news
-
--- a client is started; no absent one is
-abbrev pub started_at : Option Client → Bool
-started_at None = false
-started_at (Some k) = is_started k.stage
 
 -- a step is answered so, and leads from one hub to the other
 abbrev pub Answers : Hub → Step → Result Reply StepFault → Hub → Type 0
@@ -99,10 +93,6 @@ state_with_response hub moment response =
     }
 
 -- ---- orders
-
--- a poll of an outstation at the largest moment so far would be answered with a request
-abbrev pub is_poll_due : State → ℕ → Bool
-is_poll_due s o = is_due s.moment (slice_get s.outstations o) || is_some (order_due s o)
 
 -- once the order that is due for an outstation was taken
 abbrev pub controls_polled : State → ℕ → Controls

@@ -1,3 +1,2 @@
-pub mod Queries
 pub mod Hub
 pub mod View

@@ -8,9 +8,8 @@ ghost use Rattle.gw_steps.specs.declared.step.StepFault.TheVariants.{Spent};
 ghost use Rattle.gw_steps.specs.State.{at_first, first_after};
 ghost use Rattle.gw_model.specs.Places.{change};
 ghost use Rattle.gw_steps.specs.Controls.{order_due};
-ghost use Rattle.gw_steps.specs.Steps.{can_order, can_rise, client_up, command_of, is_beginning, is_ordering, latest, one_if, order_ended, reply_of_event, Allowed};
+ghost use Rattle.gw_steps.specs.Steps.{can_order, can_rise, client_up, command_of, is_beginning, is_ordering, latest, one_if, order_ended, reply_of_event};
 ghost use Rattle.gw_steps.specs.Runs.{history, state_after, AtEach, IsRun};
-ghost use Rattle.gw_steps.specs.Sound.{IsSoundState};
 ghost use Rattle.gw_history.specs.Premises.{HasKnownRows, IsSoundRun};
 ghost use Rattle.gw_laws.specs.Connections.{Connections};
 ghost use Rattle.gw_laws.specs.Promises.{Promises};
@@ -24,7 +23,7 @@ ghost use Rattle.gw_hub.specs.Hub.{can_count, can_take, controls_polled, state_c
 use crate::common::Common;
 use crate::news::{lose_rows, take_reports};
 use crate::orders::{Sender, end_order, lose_orders, pass_time, settle};
-use crate::parts::{CLIENTS, Parts, clients_over, field_over};
+use crate::parts::{CLIENTS, Parts};
 use crate::tally::{Counts, Tally};
 use dnp_app::Response;
 use dnp_master::Verdict;
@@ -34,11 +33,12 @@ use gw_model::{Ended, Memory, Order};
 use gw_parts::{Clients, Outstations};
 use gw_picture::Picture;
 use gw_station::Event;
-use gw_steps::{Reply, Step, StepFault};
+use gw_steps::{Machine, Reply, Step, StepFault};
 use iec_apci::Apdu;
 use std::alloc::Global;
 use std::marker::Model;
 
+mod machine;
 mod queries;
 
 /// Outstations and clients, and what goes from one to the other. It makes one step at a time, and
@@ -113,52 +113,6 @@ impl Hub {
             controls: parts.controls,
             counts,
             moment: 0,
-        })
-    }
-
-    /// An equal hub. The settings are shared; what is copied is the picture, what waits for each client, selections and
-    /// orders, and what is due towards each outstation.
-    pub fn copy(&self) -> Result<Hub, Memory>
-        ensures { IfOk result (λ hub. hub ≡ self.now) }
-    {
-        Ok(Hub {
-            alloc: self.alloc,
-            settings: self.settings.copy()?,
-            outstations: self.outstations.copy()?,
-            picture: self.picture.copy()?,
-            clients: self.clients.copy()?,
-            sessions: self.sessions,
-            controls: self.controls.copy()?,
-            counts: self.counts.copy(),
-            moment: self.moment,
-        })
-    }
-
-    /// The same, in the memory of a hub that isn't needed any more, so that little is asked for where that suffices.
-    pub fn copy_over(&self, spare: Hub) -> Result<Hub, Memory>
-        ensures { IfOk result (λ hub. hub ≡ self.now) }
-    {
-        let parts = spare.into_parts();
-        let field = field_over(
-            &self.outstations,
-            &self.picture,
-            (parts.outstations, parts.picture),
-        )?;
-        let clients = clients_over(
-            &self.clients,
-            &self.controls,
-            (parts.clients, parts.controls),
-        )?;
-        Ok(Hub {
-            alloc: self.alloc,
-            settings: self.settings.copy()?,
-            outstations: field.0,
-            picture: field.1,
-            clients: clients.0,
-            sessions: self.sessions,
-            controls: clients.1,
-            counts: self.counts.copy(),
-            moment: self.moment,
         })
     }
 
@@ -270,41 +224,6 @@ impl Hub {
         ensures { HasKnownRows self.now.setup }
     {
         let _rows = self.settings.get().rows();
-    }
-
-    /// Makes a step. A step with a fault changes nothing.
-    pub fn step(&mut self, step: &Step) -> Result<Reply, StepFault>
-        ensures step { Allowed self.old.setup self.old.state step.now result self.new.state }
-        ensures setup { self.new.setup ≡ self.old.setup }
-        // What every state keeps, before and after.
-        ensures was_sound { IsSoundState self.old.setup self.old.state }
-        ensures sound { IsSoundState self.new.setup self.new.state }
-    {
-        let _ = &self.clients;
-        let reply = match step {
-            Step::OutstationUp { outstation, moment } => self.outstation_up(*outstation, *moment),
-            Step::OutstationDown { outstation, moment } => {
-                self.outstation_down(*outstation, *moment)
-            }
-            Step::Fragment { response, moment } => self.fragment(response, *moment),
-            Step::Poll {
-                outstation,
-                moment,
-                wall,
-            } => self.poll(*outstation, *moment, *wall),
-            Step::ClientUp { client, moment } => self.client_up(*client, *moment),
-            Step::ClientDown { client, moment } => self.client_down(*client, *moment),
-            Step::Frame {
-                client,
-                apdu,
-                moment,
-            } => self.frame(*client, apdu, *moment),
-            Step::Pump { client, moment } => self.pump(*client, *moment),
-            Step::Tick { moment } => self.tick(*moment),
-        };
-        // A function that reads a field may use in its proof what the type keeps.
-        let _ = &self.clients;
-        reply
     }
 
     /// Counts a step that brings no news and begins no session.

@@ -5,9 +5,7 @@ ghost use Rattle.gw_orders.specs.Marks.{request_of};
 ghost use Rattle.gw_steps.specs.declared.step.Step.TheVariants as steps;
 ghost use Rattle.gw_steps.specs.State.{State};
 ghost use Rattle.gw_steps.specs.Steps.{client_up, reply_to};
-ghost use Rattle.gw_hub.specs.Hub.{is_poll_due};
-ghost use Rattle.gw_parts.specs.Clients.{has_offer};
-ghost use Rattle.gw_hub.specs.Queries.{gives_apdu};
+ghost use Rattle.gw_steps.specs.Queries.{gives_apdu, has_offer, is_poll_due};
 
 /// A poll of an outstation is due exactly where it would be answered with a request, also with that of an order,
 /// whatever its wall time is.

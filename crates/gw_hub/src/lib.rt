@@ -11,10 +11,9 @@ mod orders;
 mod parts;
 mod tally;
 
-pub use dnp_master::{Ignored, Verdict};
-pub use gw_control::{Accepted, Outgoing};
-pub use gw_station::Why;
-pub use gw_steps::{Reply, Step, StepFault};
+pub use gw_steps::{
+    Accepted, Apdu, ApduBuf, Ignored, Machine, Outgoing, Reply, Signal, Step, StepFault, Verdict,
+    Why,
+};
 pub use hub::Hub;
-pub use iec_apci::{Apdu, ApduBuf, Signal};
 pub use tally::Counts;

@@ -43,7 +43,7 @@ use Rattle.gw_orders.proofs.Words.{permitted_is}
 use Rattle.gw_orders.proofs.Opened.{told_of}
 use Rattle.gw_orders.proofs.Commanded.{own_is, selectable_is, selected_is, standing_open, standing_told, taken_is}
 use Rattle.gw_orders.proofs.CommandFrames.{taken_reply}
-use Rattle.gw_orders.proofs.Stages.{started_at}
+use Rattle.gw_steps.specs.Queries.{started_at}
 use Rattle.gw_orders.proofs.CommandSteps.{Selects}
 use Rattle.gw_orders.proofs.Up.{AreUp}
 

@@ -29,7 +29,8 @@ use Rattle.gw_orders.specs.Sessions.{ends_session}
 use Rattle.gw_orders.specs.Selections.{Selected, moment_at, selected_by, selected_if, selected_with, unless_by}
 use Rattle.gw_orders.proofs.Opened.{Fresh, Leaves, end_leaves, fresh_begun, fresh_left, open_at, open_left, still_leaves, unless_none, unless_same}
 use Rattle.gw_orders.proofs.Commanded.{commanded}
-use Rattle.gw_orders.proofs.Stages.{begun_stage, closed_begins, closed_stage, information_started, place_of, stage_changed, stage_stays, stage_there, started_at, stopped_stage, taken_begins, taken_stage}
+use Rattle.gw_steps.specs.Queries.{started_at}
+use Rattle.gw_orders.proofs.Stages.{begun_stage, closed_begins, closed_stage, information_started, place_of, stage_changed, stage_stays, stage_there, stopped_stage, taken_begins, taken_stage}
 
 -- ---- the sessions of all clients
 

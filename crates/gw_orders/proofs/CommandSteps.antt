@@ -39,7 +39,8 @@ use Rattle.gw_orders.specs.Selections.{Selected, moment_at, selected, selected_w
 use Rattle.gw_orders.proofs.Changed.{all_told, told_kept}
 use Rattle.gw_orders.proofs.Opened.{Leaves, end_leaves, none_current, none_kept, none_open, open_at, open_left, still_leaves, unless_none}
 use Rattle.gw_orders.proofs.SelectionCloses.{ended_selections, ended_sessions, lost_selections, lost_sessions, tick_leaves}
-use Rattle.gw_orders.proofs.Stages.{pumped_stage, started_at, ticked_stage, told_length, told_stage}
+use Rattle.gw_steps.specs.Queries.{started_at}
+use Rattle.gw_orders.proofs.Stages.{pumped_stage, ticked_stage, told_length, told_stage}
 use Rattle.gw_orders.proofs.CommandFrames.{FreshState, IsFresh, Framed, ending, framed, framing, leaving, staying}
 
 -- after a step with a reply

@@ -27,12 +27,9 @@ use Rattle.gw_station.specs.Frames.{begins, client_by, client_taking, close_of, 
 use Rattle.gw_station.specs.Pump.{client_after_pump, client_by_offer, offered}
 use Rattle.gw_steps.specs.Controls.{client_told_of, clients_told}
 use Rattle.gw_steps.specs.Steps.{client_after_frame, client_answered}
+use Rattle.gw_steps.specs.Queries.{started_at}
 use Rattle.gw_orders.proofs.PendingCloses.{bit_at}
 use Rattle.gw_orders.proofs.Changed.{told_changed, told_kept}
-
-abbrev pub started_at : Option Client → Bool
-started_at None = false
-started_at (Some k) = is_started k.stage
 
 -- there is one, so its place is among them
 pub place_of : {A : Type 0} (n : ℕ) (xs : List A) (x : A) → slice_get xs n ≡ Some x → n < length xs

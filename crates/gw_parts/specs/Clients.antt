@@ -1,13 +1,13 @@
 -- All clients, and what is asked of them.
-use Rattle.std.specs.Prelude.{ℕ, ◌+◌, ◌^◌, ◌<◌, Bool, false, ◌&&◌, is_some, length, List, Option, Some, None}
+use Rattle.std.specs.Prelude.{ℕ, ◌+◌, ◌^◌, ◌<◌, List, Option, Some, None}
 use Rattle.gw_map.specs.Settings.{Setup, station_clocks}
 use Rattle.iec_apci.specs.declared.apdu.Apdu.{Apdu}
 use Rattle.iec_window.specs.Counts.{sent_in_all}
 use Rattle.gw_station.specs.declared.event.Event.{Event}
 use Rattle.gw_station.specs.declared.event.Event.TheVariants.{Taken}
-use Rattle.gw_station.specs.Client.{Client, is_up}
+use Rattle.gw_station.specs.Client.{Client}
 use Rattle.gw_station.specs.Frames.{event_of}
-use Rattle.gw_station.specs.Pump.{given, offered}
+use Rattle.gw_station.specs.Pump.{given}
 use Rattle.gw_steps.specs.declared.step.Reply.{Reply}
 use Rattle.gw_steps.specs.Steps.{client_reply, reply_giving}
 
@@ -15,25 +15,6 @@ use Rattle.gw_steps.specs.Steps.{client_reply, reply_giving}
 pub record Clients : Type 0 where
   pub each : List Client
   pub news : ℕ
-
--- a pump at a moment would be answered with an APDU
-abbrev pub has_offer : ℕ → Option Client → Bool
-has_offer moment None = false
-has_offer moment (Some k) = is_up k.stage && is_some (offered moment k)
-
--- how many news wait at a place, and how many were dropped
-abbrev pub queued_at : Option Client → ℕ
-queued_at None = 0
-queued_at (Some k) = length k.queue
-
-abbrev pub dropped_at : Option Client → ℕ
-dropped_at None = 0
-dropped_at (Some k) = k.dropped
-
--- how many I formats sent to a client are not acknowledged
-abbrev pub unacknowledged_at : Option Client → ℕ
-unacknowledged_at None = 0
-unacknowledged_at (Some k) = length k.window.waiting
 
 -- what becomes of an APDU; nothing does where there is no such client
 abbrev pub event_at : Setup → Apdu → Option Client → Event

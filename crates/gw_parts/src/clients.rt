@@ -11,7 +11,8 @@ ghost use Rattle.gw_answers.specs.Meaning.{IsSendable};
 ghost use Rattle.gw_station.specs.Sound.{IsSoundClient, IsWholeEvent};
 ghost use Rattle.gw_steps.specs.Controls.{controls_after_closes};
 ghost use Rattle.gw_steps.specs.Steps.{begun_by, bits_of, command_of, wanted_by};
-ghost use Rattle.gw_parts.specs.Clients.{dropped_at, event_at, has_offer, queued_at, reply_to_pump, unacknowledged_at, CanCount, CanPump};
+ghost use Rattle.gw_steps.specs.Queries.{dropped_at, has_offer, queued_at, unacknowledged_at};
+ghost use Rattle.gw_parts.specs.Clients.{event_at, reply_to_pump, CanCount, CanPump};
 
 use gw_control::Controls;
 use gw_map::Settings;

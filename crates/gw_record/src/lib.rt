@@ -1,5 +1,5 @@
-//! The recorder of the core: the steps that were made on a hub, each with its actor and its reply, since a base that is
-//! the hub as it was before them. `specs/Recorded.antt` says what such a recording means.
+//! The recorder of the core: the steps that were made on a machine, each with its actor and its reply, since a base that
+//! is the machine as it was before them. `specs/Recorded.antt` says what such a recording means.
 #![tactic(auto)]
 
 mod entry;
@@ -9,7 +9,7 @@ mod tape;
 
 pub use entry::Entry;
 pub use gw_effects::{
-    Apdu, ApduBuf, Awake, CLIENTS, Counts, Dropped, Fate, Fates, Figures, Hub, Load, OUTSTATIONS,
+    Apdu, ApduBuf, Awake, CLIENTS, Dropped, Fate, Fates, Figures, Load, Machine, OUTSTATIONS,
     OrderCounts, Orders, Pace, Reply, Roused, Settled, Step, StepFault, Topic, Verdict, Watch, Why,
 };
 pub use kept::{Kept, KeptStep};

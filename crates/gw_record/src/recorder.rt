@@ -6,20 +6,20 @@ ghost use Rattle.gw_record.specs.Recording.{is_tape_full, noted, recording_off, 
 use crate::entry::Entry;
 use crate::kept::KeptStep;
 use crate::tape::Tape;
-use gw_effects::{Hub, Reply, Step, StepFault};
+use gw_effects::{Machine, Reply, Step, StepFault};
 use gw_model::Memory;
 use std::alloc::Global;
 use std::marker::Model;
 
-/// Counts the calls of each actor, and keeps the last ones on a tape: a hub as it was, and the calls since. Once memory
+/// Counts the calls of each actor, and keeps the last ones on a tape: a machine as it was, and the calls since. Once memory
 /// was refused for a new base it is off for good, and counts alone.
 #[derive(Drop)]
-pub struct Recorder {
+pub struct Recorder<M: Machine> {
     counts: Vec<u64>,
-    tape: Option<Tape>,
+    tape: Option<Tape<M>>,
 }
 
-impl Model for Recorder {
+impl<M: Machine> Model for Recorder<M> {
     ghost use Rattle.gw_record.specs.Recording.{Recording, IsTapedIfOn};
 
     ghost Value = { Recording };
@@ -35,24 +35,29 @@ pub struct NoRoom {
     cause: Memory,
 }
 
-/// What a recorder keeps: a hub as it was, how many calls each actor had made then, and the calls since, the oldest
+/// What a recorder keeps: a machine as it was, how many calls each actor had made then, and the calls since, the oldest
 /// first.
-#[derive(Clone, Copy)]
-pub struct Dump<'a> {
-    pub base: &'a Hub,
+#[derive(Drop)]
+pub struct Dump<'a, M: Machine> {
+    pub base: &'a M,
     pub counts: &'a [u64],
     pub entries: &'a [Entry],
 }
 
-impl Recorder {
+impl<M: Machine> Recorder<M> {
     /// A recorder that is on, for so many actors, of which none has made a call. It keeps `capacity` calls at most.
-    pub fn new(alloc: Global, hub: &Hub, actors: usize, capacity: usize) -> Result<Recorder, Memory>
+    pub fn new(
+        alloc: Global,
+        machine: &M,
+        actors: usize,
+        capacity: usize,
+    ) -> Result<Recorder<M>, Memory>
         requires { 0 < capacity }
         ensures counts { IfOk result (λ recorder. recorder.counts ≡ replicate actors 0) }
-        ensures tape { IfOk result (λ recorder. recorder.tape ≡ Some (tape_on hub.now (replicate actors 0) capacity)) }
+        ensures tape { IfOk result (λ recorder. recorder.tape ≡ Some (tape_on (M.seen machine.now) (replicate actors 0) capacity)) }
     {
         let counts = vec![in alloc; 0; actors]?;
-        let tape = Tape::new(alloc, hub, counts.as_slice(), capacity)?;
+        let tape = Tape::new(alloc, machine, counts.as_slice(), capacity)?;
         Ok(Recorder {
             counts,
             tape: Some(tape),
@@ -90,15 +95,15 @@ impl Recorder {
         );
     }
 
-    /// Begins anew at the hub as it is now, and forgets the calls. Where memory is refused nothing changes.
-    pub fn roll(&mut self, hub: &Hub) -> Result<(), NoRoom>
+    /// Begins anew at the machine as it is now, and forgets the calls. Where memory is refused nothing changes.
+    pub fn roll(&mut self, machine: &M) -> Result<(), NoRoom>
         requires { is_tape_full self.old.tape ≡ true }
-        ensures ok { OnOk result (self.new ≡ rolled self.old hub.now) }
+        ensures ok { OnOk result (self.new ≡ rolled self.old (M.seen machine.now)) }
         ensures room { OnOk result (is_tape_full self.new.tape ≡ false) }
         ensures err { OnErr result (self.new ≡ self.old) }
     {
         if let Some(tape) = &mut self.tape {
-            if let Err(cause) = tape.roll(hub, self.counts.as_slice()) {
+            if let Err(cause) = tape.roll(machine, self.counts.as_slice()) {
                 return Err(NoRoom { cause });
             }
         }
@@ -114,10 +119,10 @@ impl Recorder {
     }
 
     /// What it keeps; none where it is off.
-    pub fn dump(&self) -> Option<Dump<'_>>
+    pub fn dump(&self) -> Option<Dump<'_, M>>
         ensures on { IsSome result ↔ IsSome self.now.tape }
         ensures kept { IfSome result (λ d. IfSome self.now.tape (λ t.
-            (d.base.now ≡ t.base) × (d.counts.now ≡ t.before) × (d.entries.now ≡ t.entries))) }
+            (M.seen d.base.now ≡ t.base) × (d.counts.now ≡ t.before) × (d.entries.now ≡ t.entries))) }
         ensures numbered { IfSome result (λ d. IsNumbered d.counts.now d.entries.now) }
     {
         let tape = self.tape.as_ref()?;
@@ -130,7 +135,7 @@ impl Recorder {
 }
 
 /// Keeps a call on a tape, if there is one.
-fn keep(tape: &mut Option<Tape>, entry: Entry)
+fn keep<M: Machine>(tape: &mut Option<Tape<M>>, entry: Entry)
     requires { HasRoom tape.old }
     ensures { tape.new ≡ option_map (tape_with entry) tape.old }
 {

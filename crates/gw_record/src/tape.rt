@@ -3,28 +3,28 @@ ghost use Rattle.std.specs.Prelude.{◌≡◌, ◌<◌, IfOk, OnErr, OnOk, lengt
 ghost use Rattle.gw_record.specs.Recording.{tape_on, tape_with};
 
 use crate::entry::Entry;
-use gw_effects::Hub;
+use gw_effects::Machine;
 use gw_model::Memory;
 use std::alloc::Global;
 use std::marker::Model;
 use std::mem;
 
-/// A hub as it was, how many calls each actor had made then, and the calls since.
+/// A machine as it was, how many calls each actor had made then, and the calls since.
 #[derive(Drop)]
-pub struct Tape {
+pub struct Tape<M: Machine> {
     alloc: Global,
     capacity: usize,
-    base: Hub,
+    base: M,
     before: Vec<u64>,
     /// The base before this one, whose memory the next one takes over.
-    spare: Option<Hub>,
+    spare: Option<M>,
     /// The calls, of which the first `used` count. What stands behind them is from before the last roll, and is let go
     /// one by one as it is written over, so that a roll takes no longer the more calls it forgets.
     slots: Vec<Entry>,
     used: usize,
 }
 
-impl Model for Tape {
+impl<M: Machine> Model for Tape<M> {
     ghost use Rattle.std.specs.Prelude.{◌≤◌, length, take, vec_capacity};
     ghost use Rattle.gw_record.specs.Recording.{Tape as Seen};
 
@@ -32,7 +32,7 @@ impl Model for Tape {
 
     ghost view = { λ t. record {
       capacity = t.capacity;
-      base = t.base;
+      base = M.seen t.base;
       before = t.before.items;
       entries = take t.used t.slots.items;
     } };
@@ -41,17 +41,22 @@ impl Model for Tape {
         × (t.capacity ≤ vec_capacity t.slots) };
 }
 
-impl Tape {
-    /// The tape on which no call was kept since the hub was so, and each actor had made so many.
-    pub fn new(alloc: Global, hub: &Hub, counts: &[u64], capacity: usize) -> Result<Tape, Memory>
-        ensures { IfOk result (λ tape. tape ≡ tape_on hub.now counts.now capacity) }
+impl<M: Machine> Tape<M> {
+    /// The tape on which no call was kept since the machine was so, and each actor had made so many.
+    pub fn new(
+        alloc: Global,
+        machine: &M,
+        counts: &[u64],
+        capacity: usize,
+    ) -> Result<Tape<M>, Memory>
+        ensures { IfOk result (λ tape. tape ≡ tape_on (M.seen machine.now) counts.now capacity) }
     {
         let before = Vec::from_slice(alloc, counts)?;
         let slots = Vec::with_capacity(alloc, capacity)?;
         Ok(Tape {
             alloc,
             capacity,
-            base: hub.copy()?,
+            base: machine.copy()?,
             before,
             spare: None,
             slots,
@@ -79,15 +84,15 @@ impl Tape {
         self.used += 1;
     }
 
-    /// Forgets all calls: the base is the hub as it is now.
-    pub fn roll(&mut self, hub: &Hub, counts: &[u64]) -> Result<(), Memory>
-        ensures ok { OnOk result (self.new ≡ tape_on hub.now counts.now self.old.capacity) }
+    /// Forgets all calls: the base is the machine as it is now.
+    pub fn roll(&mut self, machine: &M, counts: &[u64]) -> Result<(), Memory>
+        ensures ok { OnOk result (self.new ≡ tape_on (M.seen machine.now) counts.now self.old.capacity) }
         ensures err { OnErr result (self.new ≡ self.old) }
     {
         let before = Vec::from_slice(self.alloc, counts)?;
         let base = match self.spare.take() {
-            Some(spare) => hub.copy_over(spare)?,
-            None => hub.copy()?,
+            Some(spare) => machine.copy_over(spare)?,
+            None => machine.copy()?,
         };
         self.before = before;
         self.spare = Some(mem::replace(&mut self.base, base));
@@ -96,8 +101,8 @@ impl Tape {
     }
 
     /// The base, the counts then, and the calls since, the oldest first.
-    pub fn base(&self) -> &Hub
-        ensures { result.now ≡ self.now.base }
+    pub fn base(&self) -> &M
+        ensures { M.seen result.now ≡ self.now.base }
     {
         &self.base
     }

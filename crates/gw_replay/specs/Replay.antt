@@ -4,7 +4,7 @@ use Rattle.std.specs.Fmt.{decimal}
 use Rattle.gw_map.specs.Settings.{Setup}
 use Rattle.gw_steps.specs.State.{Hub, at_first}
 use Rattle.gw_steps.specs.Steps.{Allowed}
-use Rattle.gw_parts.specs.Clients.{queued_at, dropped_at}
+use Rattle.gw_steps.specs.Queries.{queued_at, dropped_at}
 use Rattle.gw_input.specs.Lines.{AreAnswered, IsAnswered, lines_of}
 use Rattle.gw_replay.specs.declared.instruction.Instruction.{Instruction}
 use Rattle.gw_replay.specs.declared.instruction.Instruction.TheVariants as instructions

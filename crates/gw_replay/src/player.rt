@@ -6,7 +6,7 @@ ghost use Rattle.gw_replay.specs.Replay.{AnswersInput, IsFine, IsFound, Plays, b
 use crate::instruction::{Instruction, read_instruction};
 use crate::refusal::{StepRefusal, write_refused};
 use crate::reply_text::push_reply;
-use gw_hub::{Hub, Reply, StepFault};
+use gw_hub::{Hub, Machine, Reply, StepFault};
 use gw_input::{AnswersLines, Stop, answer_lines, finish};
 use gw_map::Settings;
 use gw_model::Memory;

@@ -6,8 +6,9 @@ use crate::duty::{Duty, Returned, add_duties};
 use crate::options::Options;
 use gw_clock::Clock;
 use gw_connections::{
-    ANY_TIME, Calls, Closed, Gate, Host, House, Hub, Pass, Shared, look_at_outstations,
+    ANY_TIME, Calls, Closed, Gate, Host, House, Pass, Shared, look_at_outstations,
 };
+use gw_hub::Hub;
 use gw_journal::{Journal, JournalEvent};
 use gw_map::Settings;
 use gw_model::Memory;
@@ -149,7 +150,7 @@ fn serve_with<L: Ledger + Send + Sync, R: Host, C: Clock + Sync, G: Gate + Sync>
         actors,
         capacity,
     } = opening;
-    let (shared, passes) = Shared::<L>::new(desk.alloc, blank, hub, actors, capacity)?;
+    let (shared, passes) = Shared::<L, Hub>::new(desk.alloc, blank, hub, actors, capacity)?;
     let watched = Watched { desk, gate };
     let house = House {
         desk,
@@ -161,7 +162,7 @@ fn serve_with<L: Ledger + Send + Sync, R: Host, C: Clock + Sync, G: Gate + Sync>
 
 /// Serves with these passes, which come back and are counted together.
 fn serve_in<L: Ledger + Send + Sync, R: Host, C: Clock + Sync, G: Gate + Sync>(
-    house: &House<'_, Shared<L>, R, C, G>,
+    house: &House<'_, Shared<L, Hub>, R, C, G>,
     site: &Site<'_>,
     passes: Vec<Pass<L>>,
 ) -> Result<Closed, Memory> {

@@ -4,6 +4,7 @@ ghost use Rattle.gw_shared.specs.Totals.{total_of};
 
 use crate::pass::Pass;
 use crate::shared::Shared;
+use gw_record::Machine;
 use std::sync::Wait;
 use std::sync::ledger::{Ledger, Share};
 
@@ -20,7 +21,7 @@ pub enum CloseFault {
     Missing = 1,
 }
 
-impl<L: Ledger> Shared<L> {
+impl<L: Ledger, M: Machine> Shared<L, M> {
     /// Ends the counting, where all passes of this core are handed over: gives how many calls were made, which is what
     /// they have counted together. Otherwise it gives them back.
     pub fn close<R: Wait>(

@@ -5,8 +5,8 @@
 mod bells;
 mod calls;
 mod close;
-mod hub_source;
 mod locked;
+mod machine_source;
 mod pass;
 mod pumped;
 mod shared;
@@ -15,11 +15,11 @@ pub use calls::Calls;
 pub use close::{CloseFault, Closed};
 pub use gw_bell::Bell;
 pub use gw_record::{
-    Apdu, ApduBuf, Counts, Entry, Fate, Figures, Hub, Kept, KeptStep, Load, OrderCounts, Orders,
+    Apdu, ApduBuf, Entry, Fate, Figures, Kept, KeptStep, Load, Machine, OrderCounts, Orders,
     Recorder, Reply, Settled, Step, StepFault, Verdict, Why,
 };
-pub use hub_source::HubSource;
 pub use locked::Core;
+pub use machine_source::MachineSource;
 pub use pass::Pass;
 pub use pumped::Pumped;
 pub use shared::Shared;

@@ -11,7 +11,7 @@ use crate::pumped::Pumped;
 use gw_ends::{Batch, LONGEST_APDU, apdu_in};
 use gw_model::Memory;
 use gw_record::{
-    Awake, Dropped, Fates, Figures, Hub, Load, Pace, Recorder, Reply, Roused, Step, StepFault,
+    Awake, Dropped, Fates, Figures, Load, Machine, Pace, Recorder, Reply, Roused, Step, StepFault,
     Topic, Watch,
 };
 use std::alloc::Global;
@@ -21,12 +21,12 @@ use std::sync::ledger::{Book, Ledger, Share};
 /// How many pumps are made at most before others may take the lock.
 const MOST_PUMPS: u32 = 64;
 
-/// A hub with its recorder, the count of calls, and the book of all passes' counts; what was dropped for clients, which
+/// A machine with its recorder, the count of calls, and the book of all passes' counts; what was dropped for clients, which
 /// writers are awake, how clients keep up, and what became of orders, which no contract sees.
 #[derive(Drop)]
-pub struct Core<L: Ledger> {
-    hub: Hub,
-    recorder: Recorder,
+pub struct Core<L: Ledger, M: Machine> {
+    machine: M,
+    recorder: Recorder<M>,
     made: u64,
     book: Book<L>,
     dropped: Dropped,
@@ -35,54 +35,55 @@ pub struct Core<L: Ledger> {
     fates: Fates,
 }
 
-impl<L: Ledger> Model for Core<L> {
+impl<L: Ledger, M: Machine> Model for Core<L, M> {
     ghost use Rattle.std.specs.Prelude.{◌≡◌, length, sum};
     ghost use Rattle.gw_record.specs.Recording.{Replays};
     ghost use Rattle.gw_shared.specs.Turn.{Core as Seen};
 
     ghost Value = { Seen };
 
-    ghost view = { λ c. record { hub = c.hub; recording = c.recorder; made = c.made } };
+    ghost view = { λ c. record { hub = M.seen c.machine; recording = c.recorder; made = c.made } };
 
-    // The hub is what the recorder's tape replays to; all calls are counted in the book, and by actor.
+    // The machine is what the recorder's tape replays to; all calls are counted in the book, and by actor.
     ghost invariant = { λ c. (c.made ≡ c.book.total) × (length c.recorder.counts ≡ L.parts)
-        × (sum c.recorder.counts ≡ c.made) × Replays c.recorder.tape c.hub };
+        × (sum c.recorder.counts ≡ c.made) × Replays c.recorder.tape (M.seen c.machine) };
 }
 
-/// The recorder of a hub on which no call was made, and what becomes of orders.
-fn records_of(
+/// The recorder of a machine on which no call was made, and what becomes of orders.
+fn records_of<M: Machine>(
     alloc: Global,
-    hub: &Hub,
+    machine: &M,
     actors: usize,
     capacity: usize,
-) -> Result<(Recorder, Fates), Memory>
+) -> Result<(Recorder<M>, Fates), Memory>
     requires { 0 < capacity }
     ensures counts { IfOk result (λ records. records.0.counts ≡ replicate actors 0) }
-    ensures tape { IfOk result (λ records. records.0.tape ≡ Some (tape_on hub.now (replicate actors 0) capacity)) }
+    ensures tape { IfOk result (λ records. records.0.tape
+        ≡ Some (tape_on (M.seen machine.now) (replicate actors 0) capacity)) }
 {
     let fates = Fates::new(alloc)?;
-    let recorder = Recorder::new(alloc, hub, actors, capacity)?;
+    let recorder = Recorder::new(alloc, machine, actors, capacity)?;
     Ok((recorder, fates))
 }
 
-impl<L: Ledger> Core<L> {
+impl<L: Ledger, M: Machine> Core<L, M> {
     /// A core on which no call was made.
     pub fn new(
         alloc: Global,
-        hub: Hub,
+        machine: M,
         book: Book<L>,
         actors: usize,
         capacity: usize,
-    ) -> Result<Core<L>, Memory>
+    ) -> Result<Core<L, M>, Memory>
         requires fresh { book.total ≡ 0 }
         requires actors { actors ≡ L.parts }
         requires capacity { 0 < capacity }
-        ensures hub { IfOk result (λ core. core.hub ≡ hub) }
+        ensures hub { IfOk result (λ core. core.hub ≡ M.seen machine) }
         ensures made { IfOk result (λ core. core.made ≡ 0) }
     {
-        let (recorder, fates) = records_of(alloc, &hub, actors, capacity)?;
+        let (recorder, fates) = records_of(alloc, &machine, actors, capacity)?;
         Ok(Core {
-            hub,
+            machine,
             recorder,
             made: 0,
             book,
@@ -93,7 +94,7 @@ impl<L: Ledger> Core<L> {
         })
     }
 
-    /// Makes a call: the step is made on the hub and noted with its reply. Gives the call's number, counted over all
+    /// Makes a call: the step is made on the machine and noted with its reply. Gives the call's number, counted over all
     /// passes from 1. Where no further call can be counted nothing is made, and the answer is `Spent`.
     pub fn step(&mut self, pass: &mut Pass<L>, step: Step) -> (u64, Result<Reply, StepFault>)
         ensures step { Steps self.old self.new pass.old pass.new step result }
@@ -111,14 +112,14 @@ impl<L: Ledger> Core<L> {
 
     /// What is to be watched before a step is made.
     fn watch(&self, step: &Step) -> Watch {
-        Watch::of(Topic::of(step), &self.hub)
+        Watch::of(Topic::of(step), &self.machine)
     }
 
     /// What was watched is compared with what the step left.
     fn note_dropped(&mut self, before: Watch)
         ensures { self.new ≡ self.old }
     {
-        self.dropped.note(before, &self.hub);
+        self.dropped.note(before, &self.machine);
     }
 
     /// The same call, of which the lock's taker knows what all calls keep; and whom it serves.
@@ -140,7 +141,7 @@ impl<L: Ledger> Core<L> {
     fn foresee(&mut self, topic: Topic)
         ensures { self.new ≡ self.old }
     {
-        self.fates.foresee(topic, &self.hub);
+        self.fates.foresee(topic, &self.machine);
     }
 
     /// Those of the workers whom a call serves for whom the bell has to ring. What the call did to orders is kept with
@@ -155,11 +156,11 @@ impl<L: Ledger> Core<L> {
         ensures pass { pass.new ≡ pass.old }
     {
         let orders = &mut pass.orders;
-        self.fates.note(topic, reply, &self.hub, orders);
+        self.fates.note(topic, reply, &self.machine, orders);
         let ordered = orders.accepted().is_some();
         self.awake.told(topic, reply);
         self.awake
-            .rouse(Roused::by(topic, reply, ordered, &self.hub))
+            .rouse(Roused::by(topic, reply, ordered, &self.machine))
     }
 
     /// Pumps for a client at a moment, one call after another, and puts the APDUs into a batch: until an answer is
@@ -205,7 +206,7 @@ impl<L: Ledger> Core<L> {
         }
     }
 
-    /// A full recorder begins anew at the hub as it is now, or goes off where there is no memory for that.
+    /// A full recorder begins anew at the machine as it is now, or goes off where there is no memory for that.
     fn make_ready(&mut self)
         ensures ready { IsMadeReady self.old.hub self.old.recording self.new.recording }
         ensures room { is_tape_full self.new.recording.tape ≡ false }
@@ -213,7 +214,7 @@ impl<L: Ledger> Core<L> {
         ensures made { self.new.made ≡ self.old.made }
     {
         if self.recorder.is_full() {
-            if let Err(refused) = self.recorder.roll(&self.hub) {
+            if let Err(refused) = self.recorder.roll(&self.machine) {
                 self.recorder.off(refused);
             }
         }
@@ -234,7 +235,7 @@ impl<L: Ledger> Core<L> {
     {
         self.book.audit(&mut pass.share);
         self.book.add(&mut pass.share, 1);
-        let reply = self.hub.step(&step);
+        let reply = self.machine.step(&step);
         self.recorder.note(pass.actor, step, reply);
         self.made += 1;
         (self.made, reply)
@@ -242,13 +243,13 @@ impl<L: Ledger> Core<L> {
 
     /// Whether a client is up.
     pub fn stands(&self, client: u8) -> bool {
-        self.hub.stands(client)
+        self.machine.stands(client)
     }
 
     /// What a fragment with so many observations brought, which was taken last, where a client that reads doesn't keep
     /// up with it.
     pub fn load(&self, size: u64, moment: u64) -> Option<Load> {
-        let load = Load::of(size, &self.hub);
+        let load = Load::of(size, &self.machine);
         if self.is_outrun(load, moment) {
             Some(load)
         } else {
@@ -258,12 +259,12 @@ impl<L: Ledger> Core<L> {
 
     /// Whether a client that reads still doesn't keep up with a fragment.
     pub fn is_outrun(&self, load: Load, moment: u64) -> bool {
-        self.pace.is_outrun(load, &self.hub, moment)
+        self.pace.is_outrun(load, &self.machine, moment)
     }
 
     /// What is counted.
     pub fn figures(&self) -> Figures {
-        Figures::of(self.made, &self.hub, &self.dropped, &self.fates)
+        Figures::of(self.made, &self.machine, &self.dropped, &self.fates)
     }
 
     /// How many calls were made, for whoever has all passes' shares.
@@ -276,12 +277,12 @@ impl<L: Ledger> Core<L> {
         self.made
     }
 
-    /// The hub and its recorder.
-    pub fn into_parts(self) -> (Hub, Recorder)
-        ensures { result ≡ record { 0 = self.hub; 1 = self.recording } }
+    /// The machine and its recorder.
+    pub fn into_parts(self) -> (M, Recorder<M>)
+        ensures { (M.seen result.0 ≡ self.hub) × (result.1 ≡ self.recording) }
     {
         let Core {
-            hub,
+            machine,
             recorder,
             made: _,
             book: _,
@@ -290,6 +291,6 @@ impl<L: Ledger> Core<L> {
             pace: _,
             fates: _,
         } = self;
-        (hub, recorder)
+        (machine, recorder)
     }
 }

@@ -11,7 +11,7 @@ use crate::pumped::Pumped;
 use gw_bell::Bell;
 use gw_ends::Batch;
 use gw_model::Memory;
-use gw_record::{Figures, Hub, Load, Orders, Recorder, Reply, Roused, Step, StepFault};
+use gw_record::{Figures, Load, Machine, Orders, Recorder, Reply, Roused, Step, StepFault};
 use std::alloc::Global;
 use std::marker::Model;
 use std::sync::atomic::{AtomicBool, Ordering};
@@ -20,15 +20,15 @@ use std::sync::{Mutex, Wait};
 
 /// A core for many threads. Each makes its calls with a pass, of which there are as many as actors.
 #[derive(Drop)]
-pub struct Shared<L: Ledger> {
+pub struct Shared<L: Ledger, M: Machine> {
     actors: usize,
-    core: Mutex<Core<L>>,
+    core: Mutex<Core<L, M>>,
     bells: Bells,
     stopping: AtomicBool,
 }
 
 // A contract sees how many actors there are.
-impl<L: Ledger> Model for Shared<L> {
+impl<L: Ledger, M: Machine> Model for Shared<L, M> {
     ghost use Rattle.std.specs.Prelude.{◌≡◌, ◌<◌, ℕ};
 
     ghost Value = { ℕ };
@@ -79,16 +79,16 @@ fn passes_and_bells<L: Ledger>(
     Ok((passes, bells))
 }
 
-impl<L: Ledger> Shared<L> {
-    /// A hub under its lock, for so many actors; the recorder keeps `capacity` calls at most. Gives a pass for each
+impl<L: Ledger, M: Machine> Shared<L, M> {
+    /// A machine under its lock, for so many actors; the recorder keeps `capacity` calls at most. Gives a pass for each
     /// actor too, by their positions.
     pub fn new(
         alloc: Global,
         blank: Blank,
-        hub: Hub,
+        machine: M,
         actors: usize,
         capacity: usize,
-    ) -> Result<(Shared<L>, Vec<Pass<L>>), Memory>
+    ) -> Result<(Shared<L, M>, Vec<Pass<L>>), Memory>
         requires name { blank.name ≡ L.name }
         requires parts { (blank.parts ≡ L.parts) × (blank.parts ≡ actors) }
         requires actors { 0 < actors }
@@ -98,7 +98,7 @@ impl<L: Ledger> Shared<L> {
     {
         let (book, share) = blank.open::<L>();
         let (passes, bells) = passes_and_bells(alloc, share, actors)?;
-        let core = Core::new(alloc, hub, book, actors, capacity)?;
+        let core = Core::new(alloc, machine, book, actors, capacity)?;
         let shared = Shared {
             actors,
             core: Mutex::new(core),
@@ -125,8 +125,8 @@ impl<L: Ledger> Shared<L> {
         self.core.lock(rt).total(all)
     }
 
-    /// The hub and its recorder.
-    pub fn into_parts(self) -> (Hub, Recorder) {
+    /// The machine and its recorder.
+    pub fn into_parts(self) -> (M, Recorder<M>) {
         let Shared {
             actors: _,
             core,
@@ -137,7 +137,7 @@ impl<L: Ledger> Shared<L> {
     }
 }
 
-impl<L: Ledger> Calls<L> for Shared<L> {
+impl<L: Ledger, M: Machine> Calls<L> for Shared<L, M> {
     fn step<R: Wait>(
         &self,
         rt: &R,

@@ -21,9 +21,9 @@ pub use gw_ends::{
     put_out,
 };
 pub use gw_shared::{
-    Bell, Calls, CloseFault, Closed, Core, Counts, Entry, Fate, Figures, Hub, HubSource, Kept,
-    KeptStep, OrderCounts, Orders, Pass, Pumped, Recorder, Reply, Shared, Step, StepFault, Verdict,
-    Why,
+    Bell, Calls, CloseFault, Closed, Core, Entry, Fate, Figures, Kept, KeptStep, Machine,
+    MachineSource, OrderCounts, Orders, Pass, Pumped, Recorder, Reply, Shared, Step, StepFault,
+    Verdict, Why,
 };
 pub use lost::{lose_client, lose_outstation};
 pub use outstation_writing::outstation_writer;

@@ -2,8 +2,8 @@
 use crate::checks::{same, same_list};
 use gw_capture::{Instruction, push_reply, read_instruction};
 use gw_control::Controls;
+use gw_hub::{Hub, Machine};
 use gw_map::{DEFAULT_SETTINGS, Settings};
-use gw_shared::Hub;
 use std::alloc::Global;
 use std::process::Abort;
 use std::test::Fail;

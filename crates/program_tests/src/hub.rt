@@ -1,7 +1,7 @@
 //! The hub and what it stands on: a long run of steps, and numbers and words.
 use crate::checks::{same, same_text};
+use gw_hub::{Hub, Reply, Step, StepFault, Why};
 use gw_map::{DEFAULT_SETTINGS, Settings};
-use gw_shared::{Hub, Reply, Step, StepFault, Why};
 use gw_time::TagFault;
 use std::alloc::Global;
 use std::process::Abort;

@@ -3,8 +3,9 @@ ghost use Rattle.std.specs.Prelude.{◌≡◌};
 
 use crate::checks::same;
 use gw_capture::{Instruction, read_instruction};
+use gw_hub::Hub;
 use gw_map::Settings;
-use gw_shared::{Calls, Fate, Hub, Pass, Settled, Shared, Step};
+use gw_shared::{Calls, Fate, Pass, Settled, Shared, Step};
 use std::marker::Brand;
 use std::process::Abort;
 use std::sync::Wait;
@@ -127,7 +128,7 @@ fn run<L: Ledger, R: Wait + Abort + AllocGlobal>(rt: &R, blank: Blank, hub: Hub,
     requires name { blank.name ≡ L.name }
     requires parts { (blank.parts ≡ L.parts) × (blank.parts ≡ 1) }
 {
-    let (shared, mut passes) = Shared::<L>::new(rt.alloc(), blank, hub, 1, 8).expect(
+    let (shared, mut passes) = Shared::<L, Hub>::new(rt.alloc(), blank, hub, 1, 8).expect(
         rt,
         "a shared core",
     );
@@ -145,7 +146,7 @@ fn run<L: Ledger, R: Wait + Abort + AllocGlobal>(rt: &R, blank: Blank, hub: Hub,
 /// Makes the step of a line, and adds the orders that ended by it without an answer.
 fn make<L: Ledger, R: Wait + Abort + AllocGlobal>(
     rt: &R,
-    shared: &Shared<L>,
+    shared: &Shared<L, Hub>,
     pass: &mut Pass<L>,
     line: &str,
     ended: &mut Vec<Settled>,
@@ -166,7 +167,7 @@ fn step_of<R: Abort + AllocGlobal>(rt: &R, line: &str) -> Step {
 }
 
 /// The two orders for the first outstation are counted so.
-fn check_counts<L: Ledger, R: Wait + Abort>(rt: &R, shared: &Shared<L>, course: &Course) {
+fn check_counts<L: Ledger, R: Wait + Abort>(rt: &R, shared: &Shared<L, Hub>, course: &Course) {
     let orders = shared.figures(rt).orders[0];
     let counts = [orders.done, orders.failed, orders.let_go, orders.waiting()];
     same(rt, &orders.accepted, &2);

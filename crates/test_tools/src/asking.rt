@@ -1,7 +1,7 @@
 //! Steps and answers as the lines of a replay.
 
 use gw_capture::{Instruction, push_reply, read_instruction};
-use gw_readers::{Hub, Reply, Step, StepFault};
+use gw_readers::{Machine, Reply, Step, StepFault};
 use std::alloc::Global;
 
 /// What a step was answered.
@@ -27,17 +27,17 @@ pub fn steps_of(alloc: Global, lines: &str) -> Option<Vec<Step>> {
     Some(steps)
 }
 
-/// What a hub answers a step.
-pub fn answer_of(hub: &mut Hub, step: &Step) -> Answer {
-    hub.step(step)
+/// What a machine answers a step.
+pub fn answer_of<M: Machine>(machine: &mut M, step: &Step) -> Answer {
+    machine.step(step)
 }
 
-/// What a hub answers the steps of these lines, as lines; if they are steps', where there is memory.
-pub fn replies_of(alloc: Global, hub: &mut Hub, lines: &str) -> Option<Vec<u8>> {
+/// What a machine answers the steps of these lines, as lines; if they are steps', where there is memory.
+pub fn replies_of<M: Machine>(alloc: Global, machine: &mut M, lines: &str) -> Option<Vec<u8>> {
     let mut text = Vec::new(alloc);
     for line in lines.lines() {
         let step = step_of(alloc, line)?;
-        push_reply(&mut text, hub.step(&step)).ok()?;
+        push_reply(&mut text, machine.step(&step)).ok()?;
     }
     Some(text)
 }

@@ -1,10 +1,11 @@
 //! Ends of connections in memory.
 ghost use Rattle.std.specs.Prelude.{None};
 
+use crate::opening::Shared;
 use crate::peers::{MASTER, Source, Still};
 use dnp_receive::Receiver;
 use gw_readers::{
-    Arrival, Gate, Incoming, Line, Outgoing, Pass, Shared, Unwritten, WorkerEnd, client_reader,
+    Arrival, Gate, Incoming, Line, Outgoing, Pass, Unwritten, WorkerEnd, client_reader,
     outstation_reader,
 };
 use std::sync::Wait;

@@ -4,14 +4,18 @@ ghost use Rattle.std.specs.Prelude.{◌≡◌, ◌<◌};
 use crate::asking::{Answer, Turn, has_text, step_of};
 use crate::memory::{Outstation, read_client, read_outstation};
 use crate::peers::{MASTER, Source, Still};
+use gw_hub::Hub;
 use gw_map::Settings;
-use gw_readers::{
-    Calls, Gate, Hub, Incoming, Line, Outgoing, Pass, Recorder, Shared, Step, WorkerEnd,
-    client_writer,
-};
+use gw_readers::{Calls, Gate, Incoming, Line, Outgoing, Pass, Step, WorkerEnd, client_writer};
 use std::alloc::Global;
 use std::sync::Wait;
 use std::sync::ledger::{Blank, Ledger};
+
+/// A hub under its lock.
+pub type Shared<L> = gw_readers::Shared<L, Hub>;
+
+/// The recorder of a hub.
+pub type Recorder = gw_readers::Recorder<Hub>;
 
 /// A hub on the settings that a text is, if it is settings.
 pub fn hub_on(alloc: Global, text: &str) -> Option<Hub> {

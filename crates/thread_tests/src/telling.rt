@@ -5,8 +5,8 @@ use dnp_app::KeptResponse;
 use std::io::Write;
 use std::process::Abort;
 use test_tools::{
-    Answer, Entry, Hub, Kept, KeptStep, Recorder, Step, Turn, answer_of, has_line, push_reply,
-    push_step, text_of,
+    Answer, Entry, Hub, Kept, KeptStep, Machine, Recorder, Step, Turn, answer_of, has_line,
+    push_reply, push_step, text_of,
 };
 
 /// The calls that a recorder has kept since a base, before which the actors had made so many. A hub that is the base

@@ -5,6 +5,6 @@ use Rattle.gw_steps.specs.Controls.{is_on_its_way}
 use Rattle.gw_effects.proofs.fates.keep_ended.Goals as goal
 
 pub returns : goal.returns
-returns c =
-    filter_same _ (λ x. not (is_on_its_way c.args.hub.now.state x.settled.outstation x.settled.order)) _
+returns g c =
+    filter_same _ (λ x. not (is_on_its_way (g.M.Machine.seen c.args.machine.now).state x.settled.outstation x.settled.order)) _
     (λ x b f' k. search rules) _ _ c.retain.ensures.filtered

@@ -8,11 +8,11 @@ use Rattle.gw_record.proofs.Numbering.{has_room, taped-noted}
 use Rattle.gw_record.proofs.recorder.Recorder.note.Goals as goal
 
 pub keep-requires : goal.keep-requires
-keep-requires c =
+keep-requires g c =
     has_room _ _ c.self.invariant (ap (λ (r : Recording). is_tape_full r.tape) c.self.view_is ∙ c.requires.room)
 
 pub invariant_of-self : goal.invariant_of-self
-invariant_of-self c =
+invariant_of-self g c =
     let room =
     has_room _ _ c.self.invariant (ap (λ (r : Recording). is_tape_full r.tape) c.self.view_is ∙ c.requires.room) in
     let within : c.args.actor < length c.self.inside.counts.items = search rules in

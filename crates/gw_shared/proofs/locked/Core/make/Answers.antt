@@ -15,6 +15,6 @@ invariant_of-self g c =
       omega (arith, c.add.ensures.total, c.audit.ensures.total, kept.0),
       ap (λ (r : Recording). length r.counts) c.note.ensures ∙ (length-raised _ _ ∙ kept.1),
       ap (λ (r : Recording). sum r.counts) c.note.ensures ∙ (sum-raised _ _ within ∙ ap (λ (n : ℕ). n + 1) kept.2),
-      subst (λ (r : Recording). Replays r.tape c.step-reply.new.self) (sym c.note.ensures)
+      subst (λ (r : Recording). Replays r.tape (g.M.Machine.seen c.step-reply.new.self)) (sym c.note.ensures)
           (replays-push _ _ _ _ _ _ _ kept.3 c.step-reply.ensures.step c.step-reply.ensures.setup),
     )

@@ -1,0 +1,125 @@
+//! The hub as the machine that others make steps on.
+
+use crate::hub::Hub;
+use crate::parts::{clients_over, field_over};
+use gw_control::Outgoing;
+use gw_model::Memory;
+use gw_steps::{Machine, Reply, Step, StepFault};
+
+impl Machine for Hub {
+    ghost seen = { λ hub. hub };
+
+    fn step(&mut self, step: &Step) -> Result<Reply, StepFault> {
+        let _ = &self.clients;
+        let reply = match step {
+            Step::OutstationUp { outstation, moment } => self.outstation_up(*outstation, *moment),
+            Step::OutstationDown { outstation, moment } => {
+                self.outstation_down(*outstation, *moment)
+            }
+            Step::Fragment { response, moment } => self.fragment(response, *moment),
+            Step::Poll {
+                outstation,
+                moment,
+                wall,
+            } => self.poll(*outstation, *moment, *wall),
+            Step::ClientUp { client, moment } => self.client_up(*client, *moment),
+            Step::ClientDown { client, moment } => self.client_down(*client, *moment),
+            Step::Frame {
+                client,
+                apdu,
+                moment,
+            } => self.frame(*client, apdu, *moment),
+            Step::Pump { client, moment } => self.pump(*client, *moment),
+            Step::Tick { moment } => self.tick(*moment),
+        };
+        // A function that reads a field may use in its proof what the type keeps.
+        let _ = &self.clients;
+        reply
+    }
+
+    // The settings are shared; what is copied is the picture, what waits for each client, selections and orders, and
+    // what is due towards each outstation.
+    fn copy(&self) -> Result<Hub, Memory> {
+        Ok(Hub {
+            alloc: self.alloc,
+            settings: self.settings.copy()?,
+            outstations: self.outstations.copy()?,
+            picture: self.picture.copy()?,
+            clients: self.clients.copy()?,
+            sessions: self.sessions,
+            controls: self.controls.copy()?,
+            counts: self.counts.copy(),
+            moment: self.moment,
+        })
+    }
+
+    fn copy_over(&self, spare: Hub) -> Result<Hub, Memory> {
+        let parts = spare.into_parts();
+        let field = field_over(
+            &self.outstations,
+            &self.picture,
+            (parts.outstations, parts.picture),
+        )?;
+        let clients = clients_over(
+            &self.clients,
+            &self.controls,
+            (parts.clients, parts.controls),
+        )?;
+        Ok(Hub {
+            alloc: self.alloc,
+            settings: self.settings.copy()?,
+            outstations: field.0,
+            picture: field.1,
+            clients: clients.0,
+            sessions: self.sessions,
+            controls: clients.1,
+            counts: self.counts.copy(),
+            moment: self.moment,
+        })
+    }
+
+    fn queued(&self, client: u8) -> usize {
+        self.clients.queued(client)
+    }
+
+    fn queue_limit(&self) -> u32 {
+        self.settings.get().station().queue
+    }
+
+    fn dropped(&self, client: u8) -> u64 {
+        self.clients.dropped(client)
+    }
+
+    fn unacknowledged(&self, client: u8) -> usize {
+        self.clients.unacknowledged(client)
+    }
+
+    fn news(&self) -> u64 {
+        self.counts.news()
+    }
+
+    fn orders(&self) -> u64 {
+        self.controls.ordered()
+    }
+
+    fn outgoing(&self) -> &[Outgoing] {
+        self.controls.outgoing()
+    }
+
+    fn stands(&self, client: u8) -> bool {
+        self.clients.presence(client) == Some(true)
+    }
+
+    fn is_poll_due(&self, outstation: u8) -> bool {
+        match self.outstations.get(outstation) {
+            Some(master) => {
+                master.is_due(self.moment) || (master.ready() && self.controls.waits(outstation))
+            }
+            None => false,
+        }
+    }
+
+    fn is_pump_due(&self, client: u8) -> bool {
+        self.clients.has_offer(client, self.moment)
+    }
+}
