@@ -11,7 +11,7 @@ mod sentence;
 mod warning;
 mod warnings;
 
-pub use reading::{LONGEST_FILE, Unusable, read_file, read_settings};
+pub use reading::{LONGEST_FILE, Unusable, read_settings};
 pub use report::CheckReport;
 pub use sentence::explain;
 pub use warning::Warning;

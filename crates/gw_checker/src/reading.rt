@@ -1,11 +1,8 @@
-//! Reading settings files.
+//! What the octets of a settings file mean.
 
 use gw_map::{Fault, KeyPlace, Settings, SettingsFault};
 use gw_text::Plain;
-use std::alloc::{AllocError, Global};
-use std::fs::File;
-use std::io::{self, ErrorKind, Read};
-use std::rt::Files;
+use std::alloc::Global;
 use std::{fmt, str};
 
 /// How many octets a settings file may have. One with 20,000 controls, each with all of its keys, has some four
@@ -59,27 +56,6 @@ impl From<SettingsFault> for Unusable {
     fn from(fault: SettingsFault) -> Unusable {
         Unusable::Refused(fault)
     }
-}
-
-impl From<io::Error> for Unusable {
-    fn from(error: io::Error) -> Unusable {
-        match error.kind() {
-            ErrorKind::OutOfMemory => Unusable::Memory,
-            _ => Unusable::File,
-        }
-    }
-}
-
-/// The octets of a settings file.
-pub fn read_file<R: Files>(alloc: Global, rt: &R, path: &str) -> Result<Vec<u8>, Unusable> {
-    let mut octets = Vec::new(alloc);
-    let file = File::open(rt, path)?;
-    let mut front = file.take(LONGEST_FILE + 1);
-    front.read_to_end(&mut octets)?;
-    if octets.len() as u64 > LONGEST_FILE {
-        return Err(Unusable::File);
-    }
-    Ok(octets)
 }
 
 /// The settings that the octets of a file spell.

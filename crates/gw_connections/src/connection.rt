@@ -9,8 +9,8 @@ use dnp_receive::Receiver;
 use gw_journal::Cause;
 use gw_peers::shut;
 use gw_readers::{
-    Calls, Clock, Gate, Line, Pass, WorkerEnd, client_reader, client_writer, outstation_reader,
-    outstation_writer,
+    Calls, Clock, Gate, Line, Pass, Patience, WorkerEnd, client_reader, client_writer,
+    outstation_reader, outstation_writer,
 };
 use std::net::TcpStream;
 use std::rt::Clock as Sleeps;
@@ -45,8 +45,8 @@ pub struct Link<'a, 'b> {
     pub own: u16,
     /// The link address of the outstation.
     pub peer: u16,
-    /// How long its reader waits for clients at most, in milliseconds.
-    pub patience_ms: u64,
+    /// How long its reader waits at most.
+    pub patience: Patience,
     pub socket: OutstationSocket<'b>,
     pub line: &'a Line<OutstationSocket<'b>>,
 }
@@ -135,7 +135,7 @@ fn read<L: Ledger, S: Calls<L>, R: Wait, C: Clock, G: Gate>(
                 link.line,
                 desk.clock,
                 gate,
-                link.patience_ms,
+                link.patience,
             )
         }
     };

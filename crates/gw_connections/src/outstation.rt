@@ -7,7 +7,7 @@ use crate::house::{House, is_made};
 use crate::sockets::OutstationSocket;
 use gw_journal::{Cause, Failure, JournalEvent};
 use gw_peers::{Desk, Plan, shut};
-use gw_readers::{Calls, Clock, Gate, Line, Step, pause};
+use gw_readers::{Calls, Clock, Gate, Line, Patience, Step, pause};
 use std::net::{TcpStream, ToSocketAddrs};
 use std::sync::Wait;
 use std::sync::ledger::Ledger;
@@ -155,7 +155,10 @@ fn serve_stream<
         outstation,
         own: plan.own,
         peer: plan.peer,
-        patience_ms: plan.patience_ms(),
+        patience: Patience {
+            for_clients: plan.patience_ms(),
+            for_answers: plan.silence_ms(),
+        },
         socket,
         line: &line,
     };

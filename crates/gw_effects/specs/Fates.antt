@@ -1,5 +1,5 @@
--- What becomes of orders in a step: of those that it may end without an answer, those have ended that the machine hasn't
--- any more behind it.
+-- What becomes of orders in a step: of those that it may end without an answer, those have ended that the machine
+-- hasn't any more behind it.
 use Rattle.std.specs.Prelude.{◌≡◌, ℕ, not, List, map, IsPermutation}
 use Rattle.std.specs.List.{filter}
 use Rattle.gw_steps.specs.State.{State}

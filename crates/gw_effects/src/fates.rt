@@ -146,7 +146,8 @@ impl Fates {
         machine: &M,
         orders: &mut Orders,
     )
-        ensures accepted { orders.new.accepted ≡ accepted_since self.old.before (M.seen machine.now).state.controls.ordered }
+        ensures accepted { orders.new.accepted
+            ≡ accepted_since self.old.before (M.seen machine.now).state.controls.ordered }
         // Where there was memory for all.
         ensures settled { orders.new.left_out ≡ 0
             → TellsEnded (M.seen machine.now).state self.old.at_stake orders.new.settled }

@@ -24,8 +24,8 @@ pub struct Figures {
 }
 
 impl Figures {
-    /// Those of a machine on which so many calls were made, with what was dropped in data transfers that have ended, and
-    /// with what became of orders.
+    /// Those of a machine on which so many calls were made, with what was dropped in data transfers that have ended,
+    /// and with what became of orders.
     pub fn of<M: Machine>(calls: u64, machine: &M, dropped: &Dropped, fates: &Fates) -> Figures {
         let mut queued = [0; 8];
         let mut unacknowledged = [0; 8];

@@ -1,5 +1,5 @@
-//! What steps of a machine do besides their replies: which workers they serve, what is dropped for clients, whether clients
-//! keep up, and what becomes of orders.
+//! What steps of a machine do besides their replies: which workers they serve, what is dropped for clients, whether
+//! clients keep up, and what becomes of orders.
 #![tactic(auto)]
 
 mod awake;

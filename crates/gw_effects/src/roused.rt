@@ -68,9 +68,9 @@ impl Roused {
         }
     }
 
-    /// Whom a step serves that left the machine so with this reply, and accepted an order or didn't: the writer of a peer
-    /// that came, went or had its connection closed; besides these, whoever has something to hand over now. A step with
-    /// a fault, and a fragment that wasn't accepted, serve nobody.
+    /// Whom a step serves that left the machine so with this reply, and accepted an order or didn't: the writer of a
+    /// peer that came, went or had its connection closed; besides these, whoever has something to hand over now. A
+    /// step with a fault, and a fragment that wasn't accepted, serve nobody.
     pub fn by<M: Machine>(
         topic: Topic,
         reply: &Result<Reply, StepFault>,

@@ -22,10 +22,11 @@ abbrev pub CanFail : {E : Type 0} → (E → Type 0) → Type 0
 CanFail {E} can_fail = (state : E) × can_fail state
 
 -- a reader that works on an end which fails so may end so: it ends by a failed read only where the end can fail, and
--- never by a write
+-- never by a write, nor since nothing answers
 abbrev pub MayEnd : {I : Type 0} → (I → Type 0) → WorkerEnd → Type 0
 MayEnd can_fail ends.ReadFault = CanFail can_fail
 MayEnd can_fail ends.WriteFault = ⊥
+MayEnd can_fail ends.Unanswered = ⊥
 MayEnd can_fail _ = Unit {0}
 
 -- what steps, and what is decoded, end a reader by
@@ -33,6 +34,7 @@ abbrev pub IsOfSteps : WorkerEnd → Type 0
 IsOfSteps ends.EndOfInput = ⊥
 IsOfSteps ends.ReadFault = ⊥
 IsOfSteps ends.WriteFault = ⊥
+IsOfSteps ends.Unanswered = ⊥
 IsOfSteps _ = Unit {0}
 
 -- a reader that also writes may end so: by a failed read only where its reader can fail, by a failed write only where

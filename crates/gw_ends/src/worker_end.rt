@@ -12,6 +12,8 @@ pub enum WorkerEnd {
     EndOfInput,
     /// Reading failed.
     ReadFault,
+    /// Octets came, but nothing that answers for too long.
+    Unanswered,
     /// Writing failed.
     WriteFault,
     /// The peer's octets are no APDUs.

@@ -17,6 +17,8 @@ pub enum Cause {
         /// How long it may be.
         seconds: u64,
     },
+    /// Octets came of the outstation, but for too long no fragment that was taken.
+    Unanswered,
     /// The peer took an APDU or a frame too slowly.
     Slow {
         /// How long a write may take.
@@ -49,6 +51,7 @@ impl fmt::Display for Cause {
             Cause::Closed(why) => words_of(why),
             Cause::EndOfInput => "lost: end of input",
             Cause::Silent { seconds } => return write!(f, "lost: silent for {seconds} s"),
+            Cause::Unanswered => "lost: octets came, but no answer",
             Cause::Slow { milliseconds } => {
                 return write!(f, "lost: a write took longer than {milliseconds} ms");
             }

@@ -73,6 +73,7 @@ impl ClientFigures {
             Cause::Closed(why) => self.count_closed(why),
             Cause::EndOfInput
             | Cause::Silent { .. }
+            | Cause::Unanswered
             | Cause::Slow { .. }
             | Cause::NotRead(_)
             | Cause::NotWritten(_)

@@ -34,9 +34,10 @@ use Rattle.gw_steps.specs.Runs.{Entry, state_after}
 use Rattle.gw_steps.proofs.Inversion.{answered, who_is_up}
 use Rattle.gw_steps.proofs.Running.{entry}
 use Rattle.gw_history.specs.Accepted.{moment_after}
+use Rattle.gw_history.specs.Up.{is_outstation_up}
 use Rattle.gw_orders.specs.Executes.{execute_answered, execute_by as execute_made}
 use Rattle.gw_orders.proofs.Held.{waiting_at}
-use Rattle.gw_orders.specs.Commands.{AnswersBy, AnswersDue, Orders, SaysDue, confirmed_if as said_if, execute_by, execute_for, is_accepted, is_up, orders, said_due, waiting}
+use Rattle.gw_orders.specs.Commands.{AnswersBy, AnswersDue, Orders, SaysDue, confirmed_if as said_if, execute_by, execute_for, is_accepted, orders, said_due, waiting}
 use Rattle.gw_orders.specs.Selections.{Selected, if_fresh, is_deactivation, is_free_for, is_selected_by, is_selected_for, may_select, moment_at, selected, standing}
 use Rattle.gw_orders.proofs.Carried.{is_for_control, takes_carried}
 use Rattle.gw_orders.proofs.Words.{permitted_is}
@@ -211,7 +212,7 @@ module _ (setup : Setup) (past : List Entry) (moment c : ℕ) (command : Command
   may_so q control k =
       selectable_is setup a control q s.controls ∙ ap (may_select setup c moment control command) (k.selects.tells q)
 
-  full_so : (o : ℕ) → Known setup past → is_up o past ≡ true
+  full_so : (o : ℕ) → Known setup past → is_outstation_up o past ≡ true
       → is_full_at (slice_get s.controls.outgoing o) ≡ not (nat_lt (length (waiting told past o)) 16)
   full_so o k on =
       full_is o (length (waiting told past o)) s.controls.outgoing s.outstations (slice_get s.controls.outgoing o) refl
@@ -232,12 +233,12 @@ module _ (setup : Setup) (past : List Entry) (moment c : ℕ) (command : Command
       let free : Bool = is_free_for c so in
       let same : Bool = is_selected_for c command.action so in
       let room : Bool = nat_lt (length (waiting told past o)) 16 in
-      acting_same s.controls.ordered control.select (act_by a control) full a.up (is_up o past) (is_taken a x)
+      acting_same s.controls.ordered control.select (act_by a control) full a.up (is_outstation_up o past) (is_taken a x)
       (not free) (is_selected a x) same
       (ap (is_control_up s.outstations) is ∙ k.up o) (taken_so q k) (same_so q k)
-      ∙ (acted s.controls.ordered control.select (act_by a control) (is_up o past) free same full room (full_so o k)
+      ∙ (acted s.controls.ordered control.select (act_by a control) (is_outstation_up o past) free same full room (full_so o k)
       ∙ ap (λ (b : Bool). ordered_if s.controls.ordered
-      (b && is_up o past && free && (not control.select || same) && room))
+      (b && is_outstation_up o past && free && (not control.select || same) && room))
       (permitted_is control.operates command.action))
 
   answer_is : (found : ℕ × Control) → control_for setup command ≡ Some found → Known setup past

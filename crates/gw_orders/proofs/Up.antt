@@ -19,7 +19,7 @@ use Rattle.gw_steps.specs.Steps.{Allowed, after, can_be_counted, fault_of, is_ac
 use Rattle.gw_steps.specs.Runs.{Entry, state_after}
 use Rattle.gw_steps.proofs.Inversion.{answered, who_is_down, who_is_up}
 use Rattle.gw_steps.proofs.Running.{entry}
-use Rattle.gw_orders.specs.Commands.{is_up, up_after}
+use Rattle.gw_history.specs.Up.{is_outstation_up, up_after}
 use Rattle.gw_orders.proofs.Changed.{all_told, told_changed, told_kept}
 use Rattle.gw_history.proofs.Ups.{given_up, late_up, fragment_up}
 
@@ -79,7 +79,7 @@ module _ (setup : Setup) (s : State) (p : ℕ) where
 
 -- the outstations of the state are up as the history tells
 abbrev pub AreUp : List Entry → State → Type 0
-AreUp past s = (o : ℕ) → is_up_at (slice_get s.outstations o) ≡ is_up o past
+AreUp past s = (o : ℕ) → is_up_at (slice_get s.outstations o) ≡ is_outstation_up o past
 
 first_down : (xs : List OutstationSetup) (o : ℕ)
     → is_up_at (slice_get (map (λ (x : OutstationSetup). master_down x.poll) xs) o) ≡ false

@@ -26,6 +26,7 @@ use Rattle.gw_steps.specs.declared.step.StepFault.{StepFault}
 use Rattle.gw_steps.specs.Steps.{moment_of}
 use Rattle.gw_steps.specs.Runs.{Entry, unless_fault}
 use Rattle.gw_history.specs.Life.{said_in}
+use Rattle.gw_history.specs.Up.{is_outstation_up}
 use Rattle.gw_orders.specs.Executes.{Execute, execute_in, executes}
 use Rattle.gw_orders.specs.Marks.{marks}
 use Rattle.gw_orders.specs.Pending.{Pending, is_marked, left_pending, order_made, pending}
@@ -40,16 +41,6 @@ pub record Orders : Type 0 where
 
 -- ---- when an execute is accepted
 
-abbrev pub up_after : ℕ → Step → Bool → Bool
-up_after o (steps.OutstationUp p moment) up = if p == o then true else up
-up_after o (steps.OutstationDown p moment) up = if p == o then false else up
-up_after o _ up = up
-
--- outstation o is up
-abbrev pub is_up : ℕ → List Entry → Bool
-is_up o [] = false
-is_up o (e ∷ past) = let up = is_up o past in unless_fault up (λ reply. up_after o e.step up) e.reply
-
 -- orders towards outstation o that nothing asked for yet
 abbrev pub waiting : Orders → List Entry → ℕ → List Pending
 waiting orders past o = filter (λ p. not (is_marked (marks p.number past))) (orders.pending_to o)
@@ -59,7 +50,7 @@ waiting orders past o = filter (λ p. not (is_marked (marks p.number past))) (or
 abbrev pub is_accepted : Setup → Orders → List Entry → ℕ → ℕ → ℕ → Control → Command → Bool
 is_accepted setup orders past c moment position control command =
     is_permitted control command
-    && is_up control.outstation past
+    && is_outstation_up control.outstation past
     && is_free_for c (standing setup position moment past)
     && (not control.select || is_selected_for c command.action (standing setup position moment past))
     && nat_lt (length (waiting orders past control.outstation)) 16

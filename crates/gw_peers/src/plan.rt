@@ -43,6 +43,11 @@ impl Plan {
             .min(LONGEST_PATIENCE_MS)
     }
 
+    /// How long it may be silent, or answer nothing, in milliseconds.
+    pub fn silence_ms(&self) -> u64 {
+        u64::try_from(self.silence.as_millis()).unwrap_or(u64::MAX)
+    }
+
     /// Why a connection ended: where a wait took too long, how long it was.
     pub fn in_words(&self, cause: Cause) -> Cause {
         match cause {

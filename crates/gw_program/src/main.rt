@@ -1,13 +1,19 @@
 //! The gateway's programs.
 #![tactic(auto)]
 
+mod failure_of_file;
+mod obstacle;
 mod recording;
+mod refusal;
 mod running;
+mod settings_file;
 
+use crate::refusal::{REFUSED, refuse, refuse_file, refuse_for, refuse_octets};
 use crate::running::run;
+use crate::settings_file::{read_octets, settings_of};
 use clap::error::ErrorKind;
 use gw_capture::replay;
-use gw_checker::{CheckReport, Unusable, explain, read_file, read_settings, write_warnings};
+use gw_checker::{CheckReport, read_settings, write_warnings};
 use gw_command_line::{Asked, LineFault, command_line as read_words};
 use gw_map::{DEFAULT_SETTINGS, Settings};
 use gw_server::Host;
@@ -19,9 +25,6 @@ use std::process::ExitCode;
 use std::rt::Clock;
 use std::sync::Wait;
 use std::thread::Threads;
-
-/// The status of a program that was refused something.
-const REFUSED: u8 = 1;
 
 /// The status of a command line that asks for nothing.
 const USAGE: u8 = 2;
@@ -58,13 +61,10 @@ fn answer<H: Host>(rt: &HostRuntime, host: &H, asked: Asked) -> io::Result<u8> {
             };
             check(rt, file, report)
         }
-        Asked::Translate { settings } => match settings_given(rt, settings) {
-            Ok(settings) => translate_input(rt, settings),
-            Err(why) => refuse(rt, &why),
-        },
-        Asked::Replay { file } => match settings_given(rt, Some(file)) {
+        Asked::Translate { settings } => translate_as(rt, settings),
+        Asked::Replay { file } => match settings_of(rt, file) {
             Ok(settings) => replay_input(rt, settings),
-            Err(why) => refuse(rt, &why),
+            Err(bad) => refuse_file(rt, "", &bad),
         },
         Asked::Run {
             file,
@@ -102,7 +102,21 @@ fn streams(rt: &HostRuntime) -> io::Result<Streams<'_>> {
     Ok((reader, writer))
 }
 
-/// `gateway translate`, from standard input to standard output; gives the status.
+/// `gateway translate`, with the settings of a file, or those that are used where none is named; gives the status.
+fn translate_as(rt: &HostRuntime, file: Option<&str>) -> io::Result<u8> {
+    match file {
+        Some(file) => match settings_of(rt, file) {
+            Ok(settings) => translate_input(rt, settings),
+            Err(bad) => refuse_file(rt, "", &bad),
+        },
+        None => match read_settings(rt.alloc(), DEFAULT_SETTINGS.as_bytes()) {
+            Ok(settings) => translate_input(rt, settings),
+            Err(why) => refuse(rt, &why),
+        },
+    }
+}
+
+/// Translates from standard input to standard output; gives the status.
 fn translate_input(rt: &HostRuntime, settings: Settings) -> io::Result<u8> {
     let (reader, writer) = streams(rt)?;
     Ok(translate(rt.alloc(), settings, reader, writer))
@@ -114,34 +128,11 @@ fn replay_input(rt: &HostRuntime, settings: Settings) -> io::Result<u8> {
     Ok(replay(rt.alloc(), settings, reader, writer))
 }
 
-/// The settings of a file, or those that are used where none is named.
-fn settings_given(rt: &HostRuntime, file: Option<&str>) -> Result<Settings, Unusable> {
-    match file {
-        Some(path) => {
-            let octets = read_file(rt.alloc(), rt, path)?;
-            read_settings(rt.alloc(), octets.as_slice())
-        }
-        None => read_settings(rt.alloc(), DEFAULT_SETTINGS.as_bytes()),
-    }
-}
-
-/// Writes what was refused; gives the status.
-fn refuse_for(rt: &HostRuntime, what: &str) -> io::Result<u8> {
-    println!(rt; "refused {what}")?;
-    Ok(REFUSED)
-}
-
-/// Writes why a settings file can't be used; gives the status.
-fn refuse(rt: &HostRuntime, why: &Unusable) -> io::Result<u8> {
-    println!(rt; "refused {why}")?;
-    Ok(REFUSED)
-}
-
 /// `gateway check`: what a settings file means, or what is wrong with it; gives the status.
 fn check(rt: &HostRuntime, path: &str, report: CheckReport) -> io::Result<u8> {
-    match read_file(rt.alloc(), rt, path) {
+    match read_octets(rt, path) {
         Ok(octets) => check_octets(rt, octets.as_slice(), report),
-        Err(why) => refuse(rt, &why),
+        Err(bad) => refuse_file(rt, "", &bad),
     }
 }
 
@@ -149,7 +140,7 @@ fn check(rt: &HostRuntime, path: &str, report: CheckReport) -> io::Result<u8> {
 fn check_octets(rt: &HostRuntime, octets: &[u8], report: CheckReport) -> io::Result<u8> {
     match read_settings(rt.alloc(), octets) {
         Ok(settings) => write_report(rt, &settings, report),
-        Err(why) => refuse_octets(rt, octets, &why),
+        Err(why) => refuse_octets(rt, "", octets, &why),
     }
 }
 
@@ -165,13 +156,4 @@ fn write_report(rt: &HostRuntime, settings: &Settings, report: CheckReport) -> i
         let _ = rt.stderr().write_all(warnings.as_slice());
     }
     Ok(0)
-}
-
-/// Writes why the octets of a settings file can't be used, and a sentence on it on standard error; gives the status.
-fn refuse_octets(rt: &HostRuntime, octets: &[u8], why: &Unusable) -> io::Result<u8> {
-    let status = refuse(rt, why)?;
-    let mut sentence = Vec::new(rt.alloc());
-    explain(rt.alloc(), octets, &mut sentence)?;
-    rt.stderr().write_all(sentence.as_slice())?;
-    Ok(status)
 }

@@ -1,9 +1,12 @@
 //! `gateway run`.
 
+use crate::USAGE;
+use crate::obstacle::{Obstacle, failure_at};
 use crate::recording::{Recording, tell_end};
-use crate::{USAGE, refuse, refuse_for};
+use crate::refusal::{complain, refuse_file, refuse_for};
+use crate::settings_file::{BadFile, read_octets};
 use gw_capture::Capture;
-use gw_checker::{Unusable, Warning, read_file, read_settings, warnings_of};
+use gw_checker::{Warning, read_settings, warnings_of};
 use gw_command_line::{RunOptions, VERSION};
 use gw_journal::{Doubt, Journal, JournalEvent};
 use gw_map::Settings;
@@ -18,43 +21,45 @@ use std::net::TcpListener;
 use std::sync::Wait;
 use std::{env, io, thread};
 
+/// What stands in front of a sentence where standard error goes to journald: the priority of an error.
+const ERROR: &str = "<3>";
+
+/// How the name of the file of the replies ends, behind that of the record.
+const ANSWERS: &str = ".answers";
+
 /// Why nothing is served.
 #[derive(Drop)]
-enum Unserved {
+enum Unserved<'a> {
     /// The settings can't be used.
-    Settings(Unusable),
+    Settings(BadFile<'a>),
     /// What is behind `--allow` is no address.
     Allow,
-    /// The status can't be served where it is to be.
-    Status,
-    /// Nobody can listen where the settings say.
-    Listen,
-    /// The files of the record can't be made.
-    Record,
+    /// A socket can't be opened, or a file can't be made.
+    Hindered(Obstacle<'a>),
     /// Memory, or a thread, was refused.
     Memory,
 }
 
-impl From<Unusable> for Unserved {
-    fn from(why: Unusable) -> Unserved {
-        Unserved::Settings(why)
+impl<'a> From<BadFile<'a>> for Unserved<'a> {
+    fn from(bad: BadFile<'a>) -> Unserved<'a> {
+        Unserved::Settings(bad)
     }
 }
 
-impl From<Memory> for Unserved {
-    fn from(_memory: Memory) -> Unserved {
+impl<'a> From<Memory> for Unserved<'a> {
+    fn from(_memory: Memory) -> Unserved<'a> {
         Unserved::Memory
     }
 }
 
-impl From<AllocError> for Unserved {
-    fn from(_error: AllocError) -> Unserved {
+impl<'a> From<AllocError> for Unserved<'a> {
+    fn from(_error: AllocError) -> Unserved<'a> {
         Unserved::Memory
     }
 }
 
-impl<T: Drop> From<AllocFailed<T>> for Unserved {
-    fn from(_failed: AllocFailed<T>) -> Unserved {
+impl<'a, T: Drop> From<AllocFailed<T>> for Unserved<'a> {
+    fn from(_failed: AllocFailed<T>) -> Unserved<'a> {
         Unserved::Memory
     }
 }
@@ -66,35 +71,40 @@ pub fn run<H: Host>(
     host: &H,
     file: &str,
     sessions: Option<u32>,
-    asked: &RunOptions,
+    asked: &RunOptions<'_>,
 ) -> io::Result<u8> {
     match serve_file(rt, host, file, sessions, asked) {
         Ok(closed) => {
             println!(rt; "steps {}", closed.total)?;
             Ok(0)
         }
-        Err(Unserved::Settings(why)) => refuse(rt, &why),
+        Err(Unserved::Settings(bad)) => refuse_file(rt, front_of(rt), &bad),
         Err(Unserved::Allow) => {
             eprint!(rt;
                 "error: --allow takes an address, or an address, / and a number of bits\n"
             )?;
             Ok(USAGE)
         }
-        Err(Unserved::Status) => refuse_for(rt, "status"),
-        Err(Unserved::Listen) => refuse_for(rt, "listen"),
-        Err(Unserved::Record) => refuse_for(rt, "record"),
+        Err(Unserved::Hindered(obstacle)) => {
+            let status = refuse_for(rt, obstacle.word())?;
+            complain(rt, front_of(rt), obstacle);
+            Ok(status)
+        }
         Err(Unserved::Memory) => refuse_for(rt, "memory"),
     }
 }
 
 /// Reads the settings file, listens, and serves.
-fn serve_file<H: Host>(
+fn serve_file<'a, H: Host>(
     rt: &HostRuntime,
     host: &H,
-    file: &str,
+    file: &'a str,
     sessions: Option<u32>,
-    asked: &RunOptions,
-) -> Result<Closed, Unserved> {
+    asked: &RunOptions<'a>,
+) -> Result<Closed, Unserved<'a>> {
+    if is_overwritten(file, asked.record) {
+        return Err(Unserved::Hindered(Obstacle::Overwriting));
+    }
     let (settings, source) = read_source(rt, file)?;
     let clock = SystemClock::new(host);
     let (entrances, journal) = begin(rt, host, &clock, &settings, source, asked)?;
@@ -116,14 +126,14 @@ fn serve_file<H: Host>(
 }
 
 /// Listens, and begins the journal.
-fn begin<H: Host>(
+fn begin<'a, H: Host>(
     rt: &HostRuntime,
     host: &H,
     clock: &SystemClock<'_, H>,
     settings: &Settings,
     source: Source<'_>,
-    asked: &RunOptions,
-) -> Result<(Entrances, Journal), Unserved> {
+    asked: &RunOptions<'a>,
+) -> Result<(Entrances, Journal), Unserved<'a>> {
     let entrances = Entrances::open(rt.alloc(), host, settings, asked)?;
     let journal = begun_journal(rt, host, clock, settings, source)?;
     Ok((entrances, journal))
@@ -136,12 +146,30 @@ struct Source<'a> {
     digest: [u8; 32],
 }
 
+/// Whether a record would be written into the settings file, by their names.
+fn is_overwritten(file: &str, record: Option<&str>) -> bool {
+    match record {
+        Some(record) => match file.strip_prefix(record) {
+            Some(rest) => rest.is_empty() || rest == ANSWERS,
+            None => false,
+        },
+        None => false,
+    }
+}
+
 /// The settings of a file.
-fn read_source<'a>(rt: &HostRuntime, file: &'a str) -> Result<(Settings, Source<'a>), Unserved> {
-    let octets = read_file(rt.alloc(), rt, file)?;
-    let settings = read_settings(rt.alloc(), octets.as_slice())?;
-    let digest = Sha256::digest(octets.as_slice());
-    Ok((settings, Source { file, digest }))
+fn read_source<'a>(
+    rt: &HostRuntime,
+    file: &'a str,
+) -> Result<(Settings, Source<'a>), Unserved<'a>> {
+    let octets = read_octets(rt, file)?;
+    match read_settings(rt.alloc(), octets.as_slice()) {
+        Ok(settings) => {
+            let digest = Sha256::digest(octets.as_slice());
+            Ok((settings, Source { file, digest }))
+        }
+        Err(why) => Err(Unserved::Settings(BadFile::Refused(octets, why))),
+    }
 }
 
 /// Where connections are accepted, and from whom.
@@ -154,33 +182,47 @@ struct Entrances {
 
 impl Entrances {
     /// Listens for control centres, and for those who ask for the status.
-    fn open<H: Host>(
+    fn open<'a, H: Host>(
         alloc: Global,
         host: &H,
         settings: &Settings,
-        asked: &RunOptions,
-    ) -> Result<Entrances, Unserved> {
+        asked: &RunOptions<'a>,
+    ) -> Result<Entrances, Unserved<'a>> {
         let allow = networks_of(alloc, &asked.allow)?;
         let status = status_listener(host, asked.status)?;
-        match open(host, settings) {
-            Ok(listener) => Ok(Entrances {
-                allow,
-                status,
-                listener,
-            }),
-            Err(_) => Err(Unserved::Listen),
+        let listener = listener_of(alloc, host, settings)?;
+        Ok(Entrances {
+            allow,
+            status,
+            listener,
+        })
+    }
+}
+
+/// Listens for control centres.
+fn listener_of<'a, H: Host>(
+    alloc: Global,
+    host: &H,
+    settings: &Settings,
+) -> Result<TcpListener, Unserved<'a>> {
+    match open(host, settings) {
+        Ok(listener) => Ok(listener),
+        Err(error) => {
+            let place = String::from_str(alloc, settings.station().listen.as_str())?;
+            let failure = failure_at(place.as_str(), error.kind());
+            Err(Unserved::Hindered(Obstacle::Listen(place, failure)))
         }
     }
 }
 
 /// The journal, which is told that the gateway starts.
-fn begun_journal<H: Host>(
+fn begun_journal<'a, H: Host>(
     rt: &HostRuntime,
     host: &H,
     clock: &SystemClock<'_, H>,
     settings: &Settings,
     source: Source<'_>,
-) -> Result<Journal, Unserved> {
+) -> Result<Journal, Unserved<'a>> {
     let journal = journal_of(rt.alloc(), settings, is_journal(rt))?;
     let wall = clock.wall();
     journal.tell(host, wall, started(rt.alloc(), settings, source)?);
@@ -189,11 +231,15 @@ fn begun_journal<H: Host>(
 }
 
 /// The files of a record: that of the steps, and that of the replies.
-fn record_files(rt: &HostRuntime, path: &str) -> Result<(File, File), Unserved> {
-    let answers = format!(in rt.alloc(); "{path}.answers")?;
-    match (File::create(rt, path), File::create(rt, answers.as_str())) {
-        (Ok(steps), Ok(answers)) => Ok((steps, answers)),
-        _ => Err(Unserved::Record),
+fn record_files<'a>(rt: &HostRuntime, path: &'a str) -> Result<(File, File), Unserved<'a>> {
+    let answers = format!(in rt.alloc(); "{path}{ANSWERS}")?;
+    let steps = match File::create(rt, path) {
+        Ok(steps) => steps,
+        Err(error) => return Err(Unserved::Hindered(Obstacle::Record(path, "", error.kind()))),
+    };
+    match File::create(rt, answers.as_str()) {
+        Ok(answers) => Ok((steps, answers)),
+        Err(error) => Err(Unserved::Hindered(Obstacle::Record(path, ANSWERS, error.kind()))),
     }
 }
 
@@ -210,16 +256,16 @@ struct Site<'a, H> {
 
 impl<'a, H: Host> Site<'a, H> {
     /// Serves, and takes each step down where that is asked for.
-    fn serve_asked(
+    fn serve_asked<'b>(
         &self,
         rt: &HostRuntime,
         settings: Settings,
-        asked: &RunOptions,
-    ) -> Result<Closed, Unserved> {
+        asked: &RunOptions<'b>,
+    ) -> Result<Closed, Unserved<'b>> {
         match asked.record {
             Some(path) => {
                 let files = record_files(rt, path)?;
-                self.serve_recorded(settings, files, u64::from(asked.record_size))
+                Ok(self.serve_recorded(settings, files, u64::from(asked.record_size))?)
             }
             None => Ok(self.serve(settings, &OpenGate)?),
         }
@@ -245,7 +291,7 @@ impl<'a, H: Host> Site<'a, H> {
         settings: Settings,
         files: (File, File),
         megabytes: u64,
-    ) -> Result<Closed, Unserved> {
+    ) -> Result<Closed, Memory> {
         let capture = Capture::new(self.alloc, megabytes);
         let kept = &capture;
         let (_, closed) = thread::join(
@@ -256,7 +302,7 @@ impl<'a, H: Host> Site<'a, H> {
         // The journal's thread has ended before the capture did.
         self.journal.close(self.host);
         self.journal.write_on(self.host);
-        Ok(closed?)
+        closed
     }
 
     /// Serves, and hands each step to a capture, which is closed behind the last one.
@@ -279,7 +325,7 @@ impl<'a, H: Host> Site<'a, H> {
 }
 
 /// The networks that are allowed.
-fn networks_of(alloc: Global, texts: &[&str]) -> Result<Vec<Network>, Unserved> {
+fn networks_of<'a>(alloc: Global, texts: &[&str]) -> Result<Vec<Network>, Unserved<'a>> {
     let mut networks = Vec::with_capacity(alloc, texts.len())?;
     for text in texts {
         match Network::read(text) {
@@ -291,14 +337,17 @@ fn networks_of(alloc: Global, texts: &[&str]) -> Result<Vec<Network>, Unserved> 
 }
 
 /// Listens where the status is to be served, if it is.
-fn status_listener<H: Host>(
+fn status_listener<'a, H: Host>(
     host: &H,
-    place: Option<&str>,
-) -> Result<Option<TcpListener>, Unserved> {
+    place: Option<&'a str>,
+) -> Result<Option<TcpListener>, Unserved<'a>> {
     match place {
         Some(place) => match TcpListener::bind(host, place) {
             Ok(listener) => Ok(Some(listener)),
-            Err(_) => Err(Unserved::Status),
+            Err(error) => {
+                let failure = failure_at(place, error.kind());
+                Err(Unserved::Hindered(Obstacle::Status(place, failure)))
+            }
         },
         None => Ok(None),
     }
@@ -307,6 +356,11 @@ fn status_listener<H: Host>(
 /// Whether standard error goes to journald, which takes a priority in front of a line.
 fn is_journal(rt: &HostRuntime) -> bool {
     env::var(rt, "JOURNAL_STREAM").is_ok()
+}
+
+/// What stands in front of a sentence on why nothing is served.
+fn front_of(rt: &HostRuntime) -> &'static str {
+    if is_journal(rt) { ERROR } else { "" }
 }
 
 /// That the gateway starts, with the settings of a file.

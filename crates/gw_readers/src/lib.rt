@@ -9,8 +9,8 @@ mod outstation_reading;
 pub use client_reading::client_reader;
 pub use gw_threads::{
     Arrival, Batch, Call, Calls, Clock, CloseFault, Closed, Entry, Figures, Gate, Incoming, Kept,
-    KeptStep, Line, Machine, MachineSource, OpenGate, Outgoing, Pass, Place, Pumped, Put, Recorder,
-    Reply, Run, Shared, Step, StepFault, Unwritten, Why, WorkerEnd, apdu_in, client_writer, clock,
-    make_call, outstation_writer, pause, put_out,
+    KeptStep, Line, Machine, OpenGate, Outgoing, Pass, Place, Pumped, Put, Recorder, Reply, Run,
+    Shared, Step, StepFault, Unwritten, Why, WorkerEnd, apdu_in, client_writer, clock, make_call,
+    outstation_writer, pause, put_out,
 };
-pub use outstation_reading::outstation_reader;
+pub use outstation_reading::{Patience, outstation_reader};

@@ -24,6 +24,15 @@ const LONGEST_FRAGMENT: usize = 2048;
 /// The milliseconds behind which a reader that waits for clients looks at them again.
 const NAP_MS: u64 = 5;
 
+/// How long the reader of an outstation waits at most, in milliseconds.
+#[derive(Clone, Copy)]
+pub struct Patience {
+    /// For clients that don't keep up with a fragment.
+    pub for_clients: u64,
+    /// For a fragment that is taken, while other octets come.
+    pub for_answers: u64,
+}
+
 /// What the reader of an outstation works with.
 #[derive(Drop)]
 struct Reading<'a, 'b, L: Ledger, S: Calls<L>, R: Wait, W: Outgoing, C: Clock, G: Gate> {
@@ -35,16 +44,18 @@ struct Reading<'a, 'b, L: Ledger, S: Calls<L>, R: Wait, W: Outgoing, C: Clock, G
     line: &'b Line<W>,
     clock: &'a C,
     gate: &'a G,
-    /// How often it naps at most before it reads on.
-    naps: u64,
+    patience: Patience,
+    /// When a fragment was taken last, or the reader began, in milliseconds.
+    heard: u64,
     /// The octets of the last fragment, at the front.
     recent: [u8; LONGEST_FRAGMENT],
 }
 
 /// Makes a step of each response that comes from an outstation, and sends what is owed for it: the replies of the
-/// link, and confirmations. It ends where its octets end, reading or writing fails, memory runs out, or the
-/// outstation isn't up any more; that is told to the core. Where a client that reads doesn't keep up with a fragment, it
-/// waits before it reads on, so that the outstation is held back; but no longer than `patience_ms` milliseconds.
+/// link, and confirmations. It ends where its octets end, reading or writing fails, memory runs out, the outstation
+/// isn't up any more, or octets came but for too long none of them was a fragment that the core took; that is told to the
+/// core. Where a client that reads doesn't keep up with a fragment, it waits before it reads on, so that the outstation is
+/// held back; but no longer than its patience.
 pub fn outstation_reader<
     'a,
     'b,
@@ -66,7 +77,7 @@ pub fn outstation_reader<
     line: &'b Line<W>,
     clock: &'a C,
     gate: &'a G,
-    patience_ms: u64,
+    patience: Patience,
 ) -> (Pass<L>, WorkerEnd)
     ensures own { result.0.actor ≡ pass.actor }
     ensures end { MayEndBetween I.can_fail W.can_fail result.1 }
@@ -80,7 +91,8 @@ pub fn outstation_reader<
         line,
         clock,
         gate,
-        naps: patience_ms / NAP_MS,
+        patience,
+        heard: clock.moment(),
         recent: [0; LONGEST_FRAGMENT],
     };
     let mut feed = LinkFeed::new(alloc);
@@ -133,8 +145,24 @@ impl<'a, 'b, L: Ledger, S: Calls<L>, R: Wait, W: Outgoing, C: Clock, G: Gate> Re
     {
         let arrival = input.receive(buffer);
         match arrival {
-            Arrival::Octets(count) => self.take(feed, receiver, &buffer[..count]),
+            Arrival::Octets(count) => match self.take(feed, receiver, &buffer[..count]) {
+                None => self.unanswered(),
+                end => end,
+            },
             Arrival::Later | Arrival::End | Arrival::Fault => arrival.end(),
+        }
+    }
+
+    /// An outstation of which nothing was taken for too long is lost, whatever else it sends: so its points don't stay
+    /// topical while only its link, or another station on its line, is alive.
+    fn unanswered(&self) -> Option<WorkerEnd>
+        ensures { IfSome result (λ end. end ≡ WorkerEnd.Unanswered) }
+    {
+        let waited = self.clock.moment().saturating_sub(self.heard);
+        if waited >= self.patience.for_answers {
+            Some(WorkerEnd::Unanswered)
+        } else {
+            None
         }
     }
 
@@ -221,6 +249,9 @@ impl<'a, 'b, L: Ledger, S: Calls<L>, R: Wait, W: Outgoing, C: Clock, G: Gate> Re
         let step = Step::Fragment { response, moment };
         let reply = make_call(self.rt, self.shared, &mut self.pass, step, self.gate);
         self.gate.at(actor, Place::Stepped);
+        if is_taken(&reply) {
+            self.heard = moment;
+        }
         let end = self.confirm(&reply);
         if asks {
             self.line.settle(self.rt);
@@ -237,7 +268,7 @@ impl<'a, 'b, L: Ledger, S: Calls<L>, R: Wait, W: Outgoing, C: Clock, G: Gate> Re
             return;
         };
         let bell = Bell::new();
-        for _nap in 0..self.naps {
+        for _nap in 0..self.patience.for_clients / NAP_MS {
             bell.wait_for(self.rt, 0, Duration::from_millis(NAP_MS));
             if self.shared.stopping()
                 || !self.shared.is_outrun(self.rt, load, self.clock.moment())
@@ -264,4 +295,12 @@ impl<'a, 'b, L: Ledger, S: Calls<L>, R: Wait, W: Outgoing, C: Clock, G: Gate> Re
             Err(_) => Some(WorkerEnd::WriteFault),
         }
     }
+}
+
+/// Whether the core took a fragment, or had taken it before.
+fn is_taken(reply: &Result<Reply, StepFault>) -> bool {
+    matches!(
+        reply,
+        Ok(Reply::Verdict(Verdict::Accepted { .. } | Verdict::Repeated { .. }))
+    )
 }

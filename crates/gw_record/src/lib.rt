@@ -1,5 +1,5 @@
-//! The recorder of the core: the steps that were made on a machine, each with its actor and its reply, since a base that
-//! is the machine as it was before them. `specs/Recorded.antt` says what such a recording means.
+//! The recorder of the core: the steps that were made on a machine, each with its actor and its reply, since a base
+//! that is the machine as it was before them. `specs/Recorded.antt` says what such a recording means.
 #![tactic(auto)]
 
 mod entry;

@@ -11,8 +11,8 @@ use gw_model::Memory;
 use std::alloc::Global;
 use std::marker::Model;
 
-/// Counts the calls of each actor, and keeps the last ones on a tape: a machine as it was, and the calls since. Once memory
-/// was refused for a new base it is off for good, and counts alone.
+/// Counts the calls of each actor, and keeps the last ones on a tape: a machine as it was, and the calls since. Once
+/// memory was refused for a new base it is off for good, and counts alone.
 #[derive(Drop)]
 pub struct Recorder<M: Machine> {
     counts: Vec<u64>,
@@ -54,7 +54,8 @@ impl<M: Machine> Recorder<M> {
     ) -> Result<Recorder<M>, Memory>
         requires { 0 < capacity }
         ensures counts { IfOk result (λ recorder. recorder.counts ≡ replicate actors 0) }
-        ensures tape { IfOk result (λ recorder. recorder.tape ≡ Some (tape_on (M.seen machine.now) (replicate actors 0) capacity)) }
+        ensures tape { IfOk result (λ recorder. recorder.tape
+            ≡ Some (tape_on (M.seen machine.now) (replicate actors 0) capacity)) }
     {
         let counts = vec![in alloc; 0; actors]?;
         let tape = Tape::new(alloc, machine, counts.as_slice(), capacity)?;

@@ -2,3 +2,4 @@ pub mod Counting
 pub mod Passes
 pub mod Turns
 pub mod Pumping
+pub mod Making

@@ -1,3 +1,4 @@
 pub mod Turn
 pub mod Totals
 pub mod Pumping
+pub mod Made

@@ -6,7 +6,6 @@ mod bells;
 mod calls;
 mod close;
 mod locked;
-mod machine_source;
 mod pass;
 mod pumped;
 mod shared;
@@ -19,7 +18,6 @@ pub use gw_record::{
     Recorder, Reply, Settled, Step, StepFault, Verdict, Why,
 };
 pub use locked::Core;
-pub use machine_source::MachineSource;
 pub use pass::Pass;
 pub use pumped::Pumped;
 pub use shared::Shared;

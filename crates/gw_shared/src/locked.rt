@@ -1,8 +1,10 @@
 //! What lies under the lock.
-ghost use Rattle.std.specs.Prelude.{◌≡◌, ◌+◌, ◌<◌, ◌≤◌, Some, false, replicate, IfOk};
+ghost use Rattle.std.specs.Prelude.{◌≡◌, ◌↔◌, ◌+◌, ◌<◌, ◌≤◌, Some, true, false, replicate, IfOk, IsTrue};
+ghost use Rattle.gw_steps.specs.declared.step.Step.TheVariants as steps;
 ghost use Rattle.gw_steps.specs.Sound.{IsSoundState};
-ghost use Rattle.gw_steps.specs.Steps.{Allowed};
+ghost use Rattle.gw_steps.specs.Steps.{client_up, Allowed};
 ghost use Rattle.gw_record.specs.Recording.{is_tape_full, noted, tape_on};
+ghost use Rattle.gw_shared.specs.Made.{IsMadeInto};
 ghost use Rattle.gw_shared.specs.Pumping.{GoesOn, IsPumpedNext, IsPumpedRun, MayGoOn};
 ghost use Rattle.gw_shared.specs.Turn.{last_call, Answers, IsMadeReady, Steps};
 
@@ -21,8 +23,8 @@ use std::sync::ledger::{Book, Ledger, Share};
 /// How many pumps are made at most before others may take the lock.
 const MOST_PUMPS: u32 = 64;
 
-/// A machine with its recorder, the count of calls, and the book of all passes' counts; what was dropped for clients, which
-/// writers are awake, how clients keep up, and what became of orders, which no contract sees.
+/// A machine with its recorder, the count of calls, and the book of all passes' counts; what was dropped for clients,
+/// which writers are awake, how clients keep up, and what became of orders, which no contract sees.
 #[derive(Drop)]
 pub struct Core<L: Ledger, M: Machine> {
     machine: M,
@@ -94,8 +96,8 @@ impl<L: Ledger, M: Machine> Core<L, M> {
         })
     }
 
-    /// Makes a call: the step is made on the machine and noted with its reply. Gives the call's number, counted over all
-    /// passes from 1. Where no further call can be counted nothing is made, and the answer is `Spent`.
+    /// Makes a call: the step is made on the machine and noted with its reply. Gives the call's number, counted over
+    /// all passes from 1. Where no further call can be counted nothing is made, and the answer is `Spent`.
     pub fn step(&mut self, pass: &mut Pass<L>, step: Step) -> (u64, Result<Reply, StepFault>)
         ensures step { Steps self.old self.new pass.old pass.new step result }
         ensures counted { self.old.made ≤ last_call }
@@ -128,7 +130,8 @@ impl<L: Ledger, M: Machine> Core<L, M> {
         pass: &mut Pass<L>,
         step: Step,
     ) -> ((u64, Result<Reply, StepFault>), Roused)
-        ensures { Answers pass.old pass.new step result.0 }
+        ensures step { Steps self.old self.new pass.old pass.new step result.0 }
+        ensures answers { Answers pass.old pass.new step result.0 }
     {
         let topic = Topic::of(&step);
         self.foresee(topic);
@@ -166,6 +169,7 @@ impl<L: Ledger, M: Machine> Core<L, M> {
     /// Pumps for a client at a moment, one call after another, and puts the APDUs into a batch: until an answer is
     /// none, or there is no room for one more.
     pub fn pump(&mut self, pass: &mut Pass<L>, client: u8, moment: u64, batch: &mut Batch) -> Pumped
+        ensures made { IsMadeInto (steps.Pump client moment) self.old self.new pass.old pass.new batch.old batch.new }
         ensures run { IsPumpedRun client batch.old batch.new result }
         ensures more { MayGoOn pass.old pass.new batch.new result }
         ensures own { pass.new.actor ≡ pass.old.actor }
@@ -187,6 +191,7 @@ impl<L: Ledger, M: Machine> Core<L, M> {
         moment: u64,
         batch: &mut Batch,
     ) -> Option<Pumped>
+        ensures made { IsMadeInto (steps.Pump client moment) self.old self.new pass.old pass.new batch.old batch.new }
         ensures run { IsPumpedNext client batch.old batch.new result }
         ensures more { GoesOn pass.old pass.new batch.new result }
         ensures own { pass.new.actor ≡ pass.old.actor }
@@ -242,7 +247,9 @@ impl<L: Ledger, M: Machine> Core<L, M> {
     }
 
     /// Whether a client is up.
-    pub fn stands(&self, client: u8) -> bool {
+    pub fn stands(&self, client: u8) -> bool
+        ensures { IsTrue result ↔ (client_up self.now.hub.state client ≡ Some true) }
+    {
         self.machine.stands(client)
     }
 

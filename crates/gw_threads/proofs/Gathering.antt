@@ -103,6 +103,7 @@ pub writes-then : (client : ℕ) (x y z : Option (List ℕ)) (end : WorkerEnd) �
 writes-then client x y z (ends.Closed why) first more = wrote-then client x y z first more
 writes-then client x y z ends.EndOfInput first more = wrote-then client x y z first more
 writes-then client x y z ends.ReadFault first more = wrote-then client x y z first more
+writes-then client x y z ends.Unanswered first more = wrote-then client x y z first more
 writes-then client x y z ends.WriteFault first more = front-then client x y z first more
 writes-then client x y z (ends.Malformed fault) first more = wrote-then client x y z first more
 writes-then client x y z ends.Memory first more = wrote-then client x y z first more

@@ -1,5 +1,6 @@
 //! Calls on the core, of which the gate is told.
-ghost use Rattle.std.specs.Prelude.{◌≡◌};
+ghost use Rattle.std.specs.Prelude.{◌≡◌, ℕ};
+ghost use Rattle.gw_shared.specs.Turn.{Answers};
 
 use crate::gate::Gate;
 use dnp_app::Response;
@@ -155,7 +156,8 @@ pub fn make_call<L: Ledger, S: Calls<L>, R: Wait, G: Gate>(
     step: Step,
     gate: &G,
 ) -> Result<Reply, StepFault>
-    ensures { pass.new.actor ≡ pass.old.actor }
+    ensures answered { (number : ℕ) × Answers pass.old pass.new step (number, result) }
+    ensures own { pass.new.actor ≡ pass.old.actor }
 {
     let about = About::of(&step);
     let line = gate.line_of(&step);

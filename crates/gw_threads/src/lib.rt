@@ -8,8 +8,8 @@ mod client_writing;
 mod gate;
 mod lost;
 mod outstation_writing;
-mod row;
 mod source;
+mod streak;
 mod ticking;
 
 pub use call::{About, Call, Run, control_command, make_call};
@@ -22,8 +22,7 @@ pub use gw_ends::{
 };
 pub use gw_shared::{
     Bell, Calls, CloseFault, Closed, Core, Entry, Fate, Figures, Kept, KeptStep, Machine,
-    MachineSource, OrderCounts, Orders, Pass, Pumped, Recorder, Reply, Shared, Step, StepFault,
-    Verdict, Why,
+    OrderCounts, Orders, Pass, Pumped, Recorder, Reply, Shared, Step, StepFault, Verdict, Why,
 };
 pub use lost::{lose_client, lose_outstation};
 pub use outstation_writing::outstation_writer;

@@ -5,7 +5,7 @@ ghost use Rattle.gw_ends.specs.Ends.{MayEndWriting};
 use crate::call::make_call;
 use crate::gate::{Gate, Place};
 use crate::lost::lose_outstation;
-use crate::row::{REST_MS, RequestStreak};
+use crate::streak::{REST_MS, RequestStreak};
 use gw_clock::Clock;
 use gw_ends::{Line, Outgoing, WorkerEnd};
 use gw_shared::{Calls, Pass, Reply, Step, StepFault};
@@ -31,10 +31,17 @@ pub fn outstation_writer<L: Ledger, S: Calls<L>, R: Wait + Sleeps, W: Outgoing, 
     ensures end { MayEndWriting W.can_fail result.1 }
 {
     let mut pass = pass;
-    let mut row = RequestStreak::new();
+    let mut streak = RequestStreak::new();
     'requests: for _ in rt.forever() {
         let next = write_next(
-            rt, shared, &mut pass, outstation, line, &mut row, clock, gate,
+            rt,
+            shared,
+            &mut pass,
+            outstation,
+            line,
+            &mut streak,
+            clock,
+            gate,
         );
         if let Some(end) = next {
             return (pass, end);
@@ -50,7 +57,7 @@ fn write_next<L: Ledger, S: Calls<L>, R: Wait + Sleeps, W: Outgoing, C: Clock, G
     pass: &mut Pass<L>,
     outstation: u8,
     line: &Line<W>,
-    row: &mut RequestStreak,
+    streak: &mut RequestStreak,
     clock: &C,
     gate: &G,
 ) -> Option<WorkerEnd>
@@ -66,7 +73,7 @@ fn write_next<L: Ledger, S: Calls<L>, R: Wait + Sleeps, W: Outgoing, C: Clock, G
         Ok(Reply::Request(request)) => {
             gate.at(pass.actor(), Place::BeforeWrite);
             if line.request(rt, &request).is_ok() {
-                rest(rt, row, clock.moment());
+                rest(rt, streak, clock.moment());
                 return None;
             }
             WorkerEnd::WriteFault
@@ -81,9 +88,9 @@ fn write_next<L: Ledger, S: Calls<L>, R: Wait + Sleeps, W: Outgoing, C: Clock, G
     Some(end)
 }
 
-/// Rests behind a request that went at a moment, where it ends a row.
-fn rest<R: Sleeps>(rt: &R, row: &mut RequestStreak, moment: u64) {
-    if row.add(moment) {
+/// Rests behind a request that went at a moment, where it ends a streak.
+fn rest<R: Sleeps>(rt: &R, streak: &mut RequestStreak, moment: u64) {
+    if streak.add(moment) {
         thread::sleep(rt, Duration::from_millis(REST_MS));
     }
 }

@@ -5,7 +5,7 @@ use crate::opening::Shared;
 use crate::peers::{MASTER, Source, Still};
 use dnp_receive::Receiver;
 use gw_readers::{
-    Arrival, Gate, Incoming, Line, Outgoing, Pass, Unwritten, WorkerEnd, client_reader,
+    Arrival, Gate, Incoming, Line, Outgoing, Pass, Patience, Unwritten, WorkerEnd, client_reader,
     outstation_reader,
 };
 use std::sync::Wait;
@@ -123,6 +123,9 @@ pub fn read_outstation<L: Ledger, R: Wait + AllocGlobal, I: Incoming, G: Gate>(
         line,
         &Still,
         gate,
-        0,
+        Patience {
+            for_clients: 0,
+            for_answers: u64::MAX,
+        },
     )
 }

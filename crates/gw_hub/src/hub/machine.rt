@@ -10,6 +10,7 @@ impl Machine for Hub {
     ghost seen = { λ hub. hub };
 
     fn step(&mut self, step: &Step) -> Result<Reply, StepFault> {
+        // A function that reads a field may use in its proof what the type keeps: here, and behind the step.
         let _ = &self.clients;
         let reply = match step {
             Step::OutstationUp { outstation, moment } => self.outstation_up(*outstation, *moment),
@@ -32,7 +33,6 @@ impl Machine for Hub {
             Step::Pump { client, moment } => self.pump(*client, *moment),
             Step::Tick { moment } => self.tick(*moment),
         };
-        // A function that reads a field may use in its proof what the type keeps.
         let _ = &self.clients;
         reply
     }

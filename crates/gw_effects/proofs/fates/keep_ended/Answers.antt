@@ -6,5 +6,6 @@ use Rattle.gw_effects.proofs.fates.keep_ended.Goals as goal
 
 pub returns : goal.returns
 returns g c =
-    filter_same _ (λ x. not (is_on_its_way (g.M.Machine.seen c.args.machine.now).state x.settled.outstation x.settled.order)) _
+    let state = (g.M.Machine.seen c.args.machine.now).state in
+    filter_same _ (λ x. not (is_on_its_way state x.settled.outstation x.settled.order)) _
     (λ x b f' k. search rules) _ _ c.retain.ensures.filtered

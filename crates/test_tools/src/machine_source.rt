@@ -4,7 +4,7 @@ ghost use Rattle.gw_steps.specs.declared.step.Step.TheVariants as steps;
 ghost use Rattle.gw_steps.specs.Steps.{Allowed};
 
 use gw_ends::{Batch, Gathered, LONGEST_APDU, Source, apdu_in};
-use gw_record::{Machine, Step};
+use gw_hub::{Machine, Step};
 
 /// A machine alone, pumped for one client at one moment.
 #[derive(Drop)]

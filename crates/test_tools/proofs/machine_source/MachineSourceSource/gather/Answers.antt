@@ -6,7 +6,7 @@ use Rattle.gw_steps.specs.declared.step.StepFault.{StepFault}
 use Rattle.gw_steps.specs.Steps.{Allowed}
 use Rattle.gw_ends.specs.PutOut.{Gave, Given}
 use Rattle.gw_ends.proofs.Runs.{gave-one}
-use Rattle.gw_shared.proofs.machine_source.MachineSourceSource.gather.Goals as goal
+use Rattle.test_tools.proofs.machine_source.MachineSourceSource.gather.Goals as goal
 
 pub returns-in-Some : goal.returns-in-Some
 returns-in-Some g c =

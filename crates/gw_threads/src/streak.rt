@@ -1,9 +1,9 @@
-//! Requests in a row.
+//! Requests that follow each other.
 
-/// How many requests may go to an outstation in a row.
+/// How many requests may go to an outstation in a streak.
 const MOST: u32 = 100;
 
-/// The milliseconds behind which the next request begins a row of its own, and so the rest behind a whole row.
+/// The milliseconds behind which the next request begins a streak of its own, and so the rest behind a whole streak.
 pub const REST_MS: u64 = 20;
 
 /// How many requests went to an outstation, each soon behind the one before. Indications of events that never clear
