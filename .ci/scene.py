@@ -52,6 +52,7 @@ KINDS = {
         *(rf"outstation \d+ \S+ {re.escape(it)}" for it in TROUBLES),
         COUNTS,
         r"outstation \d+ \S+ unreadable: .+",
+        r"outstation \d+ \S+ \d+ objects? passed over, of kinds that aren't taken",
         r"outstation \d+ \S+ order \d+ (failed|let go): .+",
         r"client \d \S+ (lost: .+|closed: (?!the gateway ends|gave way).+)",
         r"client \d \S+ \d+ observations? dropped, since too many waited",

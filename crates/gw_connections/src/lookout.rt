@@ -41,6 +41,9 @@ fn tell_of_outstation<R: Wait, C: Clock>(desk: &Desk<'_, R, C>, outstation: u8, 
     if let Some(count) = due.skipped {
         desk.tell(JournalEvent::OctetsSkipped { outstation, count });
     }
+    if let Some(count) = due.passed_over {
+        desk.tell(JournalEvent::ObjectsPassedOver { outstation, count });
+    }
     if let Some(Refused { fault, left_out }) = due.refused {
         desk.tell(JournalEvent::FragmentRefused {
             outstation,

@@ -99,6 +99,13 @@ pub enum JournalEvent {
         /// How many, since they were told last.
         count: u64,
     },
+    /// Objects of kinds that aren't taken came of the outstation.
+    ObjectsPassedOver {
+        /// The outstation.
+        outstation: u8,
+        /// How many, since they were told last.
+        count: u64,
+    },
     /// Something happened with an order to the outstation.
     Order {
         /// The outstation.
@@ -219,6 +226,7 @@ impl JournalEvent {
             | JournalEvent::Unanswered { .. }
             | JournalEvent::FragmentRefused { .. }
             | JournalEvent::OctetsSkipped { .. }
+            | JournalEvent::ObjectsPassedOver { .. }
             | JournalEvent::ClientLost { .. }
             | JournalEvent::NewsDropped { .. }
             | JournalEvent::AllPlacesTaken
@@ -240,6 +248,7 @@ impl JournalEvent {
             | JournalEvent::Unanswered { outstation, .. }
             | JournalEvent::FragmentRefused { outstation, .. }
             | JournalEvent::OctetsSkipped { outstation, .. }
+            | JournalEvent::ObjectsPassedOver { outstation, .. }
             | JournalEvent::Order { outstation, .. } => Subject::Outstation(*outstation),
             JournalEvent::ClientConnected { client, address }
             | JournalEvent::TransferStarted { client, address }
@@ -259,17 +268,7 @@ impl JournalEvent {
                 address,
                 ..
             } => Subject::Client(*client, *address),
-            JournalEvent::Started { .. }
-            | JournalEvent::Doubtful(_)
-            | JournalEvent::Listening(_)
-            | JournalEvent::AllPlacesTaken
-            | JournalEvent::PlaceFree
-            | JournalEvent::NotAllowed { .. }
-            | JournalEvent::NotAccepted(_)
-            | JournalEvent::RecordingEnded(_)
-            | JournalEvent::LeftOut(_)
-            | JournalEvent::ControlsLeftOut(_)
-            | JournalEvent::Stopped => Subject::Gateway,
+            _ => Subject::Gateway,
         }
     }
 

@@ -216,6 +216,14 @@ impl<'a> fmt::Display for OutstationWords<'a> {
             JournalEvent::OctetsSkipped { count, .. } => {
                 return write_counted(f, *count, "octet", "skipped by the link");
             }
+            JournalEvent::ObjectsPassedOver { count, .. } => {
+                return write_counted(
+                    f,
+                    *count,
+                    "object",
+                    "passed over, of kinds that aren't taken",
+                );
+            }
             JournalEvent::Order { order, what, .. } => return write_order(f, *order, what),
             _ => "",
         };

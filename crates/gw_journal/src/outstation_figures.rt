@@ -6,6 +6,9 @@ use crate::unreadable::Unreadable;
 /// The milliseconds between two tellings of unanswered requests, and of skipped octets.
 const MINUTE_MS: u64 = 60_000;
 
+/// The milliseconds between two tellings of objects that were passed over.
+const HOUR_MS: u64 = 3_600_000;
+
 /// The milliseconds between two tellings of refused fragments.
 const SECOND_MS: u64 = 1000;
 
@@ -53,6 +56,7 @@ pub struct OutstationFigures {
     earlier_setting: Setting,
     unanswered_told: Throttle,
     skipped_told: Throttle,
+    passed_over_told: Throttle,
     refused_told: Throttle,
     /// Why the last fragment was refused that wasn't told.
     last_refused: Option<Unreadable>,
@@ -99,6 +103,8 @@ pub struct DueNotes {
     pub unanswered: Option<u64>,
     /// So many octets were skipped.
     pub skipped: Option<u64>,
+    /// So many objects were passed over.
+    pub passed_over: Option<u64>,
     /// Fragments were refused and not told.
     pub refused: Option<Refused>,
 }
@@ -138,6 +144,7 @@ impl OutstationFigures {
             earlier_setting: Setting::Idle,
             unanswered_told: Throttle::new(MINUTE_MS),
             skipped_told: Throttle::new(MINUTE_MS),
+            passed_over_told: Throttle::new(HOUR_MS),
             refused_told: Throttle::new(SECOND_MS),
             last_refused: None,
         }
@@ -250,6 +257,11 @@ impl OutstationFigures {
         self.skipped_told.add(octets);
     }
 
+    /// Objects came of kinds that aren't taken.
+    pub fn passed_over(&mut self, objects: u64) {
+        self.passed_over_told.add(objects);
+    }
+
     /// What is due to be told, which counts as told then.
     pub fn due(&mut self, wall: u64) -> DueNotes {
         match self.doubt {
@@ -260,6 +272,7 @@ impl OutstationFigures {
         DueNotes {
             unanswered: self.unanswered_told.pending(wall),
             skipped: self.skipped_told.pending(wall),
+            passed_over: self.passed_over_told.pending(wall),
             refused: self.refused_due(wall),
         }
     }

@@ -223,13 +223,24 @@ impl<'a, 'b, L: Ledger, S: Calls<L>, R: Wait, W: Outgoing, C: Clock, G: Gate> Re
         let count = octets.len();
         self.recent[..count].copy_from_slice(octets.as_slice());
         match read_response(self.alloc, self.outstation, octets) {
-            Ok(response) => self.step(response),
+            Ok(response) => {
+                self.tell_passed_over(&response);
+                self.step(response)
+            }
             Err(AppFault::Memory) => Some(WorkerEnd::Memory),
             Err(fault) => {
                 let octets = &self.recent[..count];
                 self.gate.refused(self.outstation, octets, &fault);
                 None
             }
+        }
+    }
+
+    /// Tells the gate of objects of kinds that aren't taken.
+    fn tell_passed_over(&self, response: &Response) {
+        let objects = response.stepped_over() as u64;
+        if objects > 0 {
+            self.gate.passed_over(self.outstation, objects);
         }
     }
 

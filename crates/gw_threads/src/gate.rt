@@ -27,6 +27,9 @@ pub trait Gate {
     /// The link dropped so many octets of an outstation, at which no frame begins.
     fn skipped(&self, _outstation: u8, _octets: u32) {}
 
+    /// A fragment of an outstation was read that has so many objects of kinds that aren't taken.
+    fn passed_over(&self, _outstation: u8, _objects: u64) {}
+
     /// A step is about to be made: the line that is kept of it, where steps are taken down.
     fn line_of(&self, _step: &Step) -> Option<Vec<u8>> {
         None

@@ -149,6 +149,13 @@ impl<'a, R: Wait, C: Clock, G: Gate> Gate for Watched<'a, R, C, G> {
         }
     }
 
+    fn passed_over(&self, outstation: u8, objects: u64) {
+        self.gate.passed_over(outstation, objects);
+        if let Some(card) = self.desk.board.outstation(outstation) {
+            card.figures.lock(self.desk.rt).passed_over(objects);
+        }
+    }
+
     fn line_of(&self, step: &Step) -> Option<Vec<u8>> {
         if let Step::Frame {
             client,
