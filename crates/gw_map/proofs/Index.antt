@@ -1,19 +1,14 @@
 -- Positions by keys: an index of some keys, with one more, and what it finds.
-use Rattle.std.proofs.Common.{◌≡◌, ℕ, ◌+◌, ◌<◌, ◌≤◌, ◌==◌, List, [], ◌∷◌, ◌++◌, length, map, take, get_or, slice_get, subst, Some, None, Bool, true, false, ◌&&◌, cond, is_some, refl, ap, sym, ◌∙◌, inl, inr, arith}
+use Rattle.std.proofs.Common.{◌≡◌, ℕ, ◌+◌, ◌<◌, ◌≤◌, List, [], ◌∷◌, ◌++◌, length, map, take, get_or, slice_get, subst, Some, None, Bool, true, false, cond, is_some, refl, ap, sym, ◌∙◌, inl, inr, arith}
 use Rattle.std.specs.List.{position_from, list_any}
 use Rattle.std.specs.Map.{lookup}
-use Rattle.std.proofs.lemmas.Bool.{cases_Bool, true≢false, and_parts, eqb-true}
+use Rattle.std.proofs.lemmas.Bool.{cases_Bool, true≢false}
 use Rattle.std.proofs.lemmas.List.{length-map, length-take-le, take_all}
-use Rattle.gw_model.specs.declared.point.Kind.{Kind}
-use Rattle.gw_model.specs.declared.point.Kind.TheVariants.{Binary, Output, Double, Counter, Analog}
-use Rattle.gw_model.specs.declared.point.PointKey.{PointKey}
 use Rattle.gw_model.specs.declared.point.ObjectKey.{ObjectKey}
-use Rattle.gw_model.specs.contracts.point.PointKeyPartialEq.TheImpl.{eq-value}
-use Rattle.gw_model.specs.Keys.{same_key, same_object}
+use Rattle.gw_model.specs.Keys.{same_object}
 use Rattle.gw_map.specs.Settings.{first_from, IsIndex}
-use Rattle.gw_map.proofs.Finding.{finds_none, finds_past, finds_at, eq_comm, key_sym}
+use Rattle.gw_map.proofs.Finding.{finds_none, finds_past, finds_at, eq_comm}
 use Rattle.gw_map.proofs.Loops.{map_take-more}
-use Rattle.gw_map.proofs.Repeats.{key_of, key_eq}
 
 -- ---- positions
 
@@ -97,54 +92,10 @@ pub index-end : {X K : Type 0} (same : K → K → Bool) (f : X → K) (all : Li
     → length all ≤ i → IsIndex same entries (map f (take i all)) → IsIndex same entries (map f all)
 index-end same f all i entries h index = subst (λ xs. IsIndex same entries (map f xs)) (take_all i all h) index
 
--- ---- points and information objects
+-- ---- information objects
 
 pub object_sym : (a b : ObjectKey) → same_object a b ≡ same_object b a
 object_sym a b = rw (eq_comm a.common_address b.common_address, eq_comm a.address b.address)
-
-same-parts : (k l : Kind) (o i p j : ℕ) → k ≡ l → ((o == p) && true) && (i == j) ≡ true → key_of o k i ≡ key_of p l j
-same-parts k l o i p j same e =
-    let both = and_parts ((o == p) && true) (i == j) e in
-    let first = and_parts (o == p) true both.0 in
-    let outstations : o ≡ p = eqb-true o p first.0 in
-    let indexes : i ≡ j = eqb-true i j both.1 in
-    rw (outstations, indexes, same)
-
-key-true_by : (o i p j : ℕ) (k l : Kind) → same_key (key_of o k i) (key_of p l j) ≡ true → key_of o k i ≡ key_of p l j
-key-true_by o i p j Binary Binary e = same-parts Binary Binary o i p j refl e
-key-true_by o i p j Output Output e = same-parts Output Output o i p j refl e
-key-true_by o i p j Double Double e = same-parts Double Double o i p j refl e
-key-true_by o i p j Counter Counter e = same-parts Counter Counter o i p j refl e
-key-true_by o i p j Analog Analog e = same-parts Analog Analog o i p j refl e
-key-true_by o i p j _ _ e =
-    absurd (true≢false (sym (and_parts (o == p) false (and_parts ((o == p) && false) (i == j) e).0).1))
-
-pub key-true : (a b : PointKey) → same_key a b ≡ true → a ≡ b
-key-true a b e = key-true_by a.outstation a.index b.outstation b.index a.kind b.kind e
-
-lookup-same : {K X : Type 0} (p q : K → Bool) (entries : List (K × X)) → ((key : K) → p key ≡ q key)
-    → lookup p entries ≡ lookup q entries
-lookup-same p q [] same = refl
-lookup-same p q (e ∷ es) same = rw (same e.0, lookup-same p q es same)
-
--- the map compares points as this does
-pub by_key : (key : PointKey) (entries : List (PointKey × ℕ))
-    → lookup (eq-value.it key) entries ≡ lookup (same_key key) entries
-by_key key entries = lookup-same (eq-value.it key) (same_key key) entries (key_eq key)
-
-pub has_key : (key : PointKey) (entries : List (PointKey × ℕ)) (keys : List PointKey) → IsIndex same_key entries keys
-    → is_some (lookup (eq-value.it key) entries) ≡ list_any (same_key key) keys
-has_key key entries keys index = ap is_some (by_key key entries) ∙ index-has same_key entries keys key index
-
-pub key-next : {X : Type 0} (f : X → PointKey) (all : List X) (i : ℕ) (d : X) (old new : List (PointKey × ℕ))
-    (key : PointKey) → i < length all → key ≡ f (get_or all i d) → IsIndex same_key old (map f (take i all))
-    → list_any (same_key key) (map f (take i all)) ≡ false
-    → ((other : PointKey) → lookup (eq-value.it other) new
-    ≡ cond (eq-value.it key other) (Some i) (lookup (eq-value.it other) old))
-    → IsIndex same_key new (map f (take (i + 1) all))
-key-next f all i d old new key within is index fresh put =
-    index-next same_key key_sym key-true f all i d old new key within is index fresh
-    (λ other. sym (by_key other new) ∙ put other ∙ rw (key_eq key other, by_key other old) refl)
 
 -- ---- what is found
 

@@ -4,5 +4,6 @@ pub mod Repeats
 pub mod Whole
 pub mod Finding
 pub mod Index
+pub mod Points
 pub mod Known
 pub mod Distinct

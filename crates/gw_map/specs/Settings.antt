@@ -1,7 +1,7 @@
 -- The settings as the other parts see them, and the look-ups in them.
 use Rattle.std.specs.Prelude.{◌≡◌, IsTrue, ℕ, ◌+◌, ◌<◌, Bool, false, not, ◌==◌, ◌&&◌, List, [], ◌∷◌, ◌++◌, map, filter, Option, Some, None, if◌then◌else◌}
 use Rattle.std.specs.List.{list_any, position_from, AllByRecursion}
-use Rattle.std.specs.Map.{lookup}
+use Rattle.std.specs.Map.{lookup, values_of}
 use Rattle.gw_model.specs.declared.point.PointKey.{PointKey}
 use Rattle.gw_model.specs.declared.point.ObjectKey.{ObjectKey}
 use Rattle.gw_model.specs.Keys.{same_key, same_object}
@@ -125,14 +125,18 @@ HasSingleAddresses rows controls = repeated same_object 0 [] (objects_of rows co
 abbrev pub IsIndex : {K : Type 0} → (K → K → Bool) → List (K × ℕ) → List K → Type 0
 IsIndex {K} same entries keys = (key : K) → lookup (same key) entries ≡ position_from (same key) 0 keys
 
--- what the indexes hold: the rows' positions by their points and by their information objects, and the controls'
-pub record IsKept (rows : List Row) (controls : List Control) (row_sources : List (PointKey × ℕ))
+-- rows by their points, in the same order
+abbrev pub by_point : List Row → List (PointKey × Row)
+by_point rows = map (λ row. (row.key, row)) rows
+
+-- what is kept: the rows by their points, and the positions of rows and of controls by their information objects
+pub record IsKept (points : List (PointKey × Row)) (controls : List Control)
     (row_objects control_objects : List (ObjectKey × ℕ)) : Type 0 where
-  pub by_source : IsIndex same_key row_sources (map (λ row. row.key) rows)
-  pub by_object : IsIndex same_object row_objects (map row_object rows)
+  pub keyed : points ≡ by_point (values_of points)
+  pub by_object : IsIndex same_object row_objects (map row_object (values_of points))
   pub control_by_object : IsIndex same_object control_objects (map control_object controls)
-  pub sources : HasSingleSources rows
-  pub single : HasSingleAddresses rows controls
+  pub sources : HasSingleSources (values_of points)
+  pub single : HasSingleAddresses (values_of points) controls
 
 -- these are the known addresses, in their range
 pub record AreKnown (station : StationSetup) (outstations : List OutstationSetup) (addresses : List ℕ) : Type 0 where

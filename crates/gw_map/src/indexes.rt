@@ -1,14 +1,14 @@
-//! The indexes of the settings: points by their source, and points and controls by their information object.
+//! The point map, and the indexes of the settings: points and controls by their information object.
 ghost use Rattle.std.specs.Prelude.{◌≡◌, [], List, map, codes, IfOk};
 ghost use Rattle.std.specs.List.{AllByRecursion};
-ghost use Rattle.gw_model.specs.Keys.{same_key, same_object};
-ghost use Rattle.gw_entries.specs.Answers.{Passes};
+ghost use Rattle.gw_model.specs.Keys.{same_object};
+ghost use Rattle.gw_entries.specs.Answers.{Passes, Tells};
 ghost use Rattle.gw_entries.specs.Complaints.{complaint};
 ghost use Rattle.gw_map.specs.Sections.{double_sources, repeated};
 ghost use Rattle.gw_entries.specs.Faults.{refusal_of};
 ghost use Rattle.gw_entries.specs.Faults.{refused};
 ghost use Rattle.gw_entries.specs.Ranges.{IsWithin};
-ghost use Rattle.gw_map.specs.Settings.{row_object, control_object, repeats_in, known_addresses, IsIndex};
+ghost use Rattle.gw_map.specs.Settings.{by_point, row_object, control_object, repeats_in, known_addresses, IsIndex};
 ghost use Rattle.gw_entries.specs.declared.fault.Fault.TheVariants.{DoubleAddress};
 ghost use Rattle.gw_entries.specs.declared.fault.Section.TheVariants as of;
 
@@ -16,17 +16,17 @@ use crate::common_addresses::known_addresses;
 use crate::sections::Sections;
 use gw_entries::{Control, Fault, KeyFault, Row, Section, SettingsFault};
 use gw_model::{ObjectKey, PointKey};
+use indexmap::IndexMap;
 use std::alloc::Global;
 use std::collections::HashMap;
 
-/// The positions of rows by their points. The first row whose point has a row before is refused.
-fn source_index(alloc: Global, rows: &[Row]) -> Result<HashMap<PointKey, usize>, SettingsFault>
-    ensures passes { Passes result (double_sources (map (λ row. row.key) rows.now)) }
-    ensures index { IfOk result (λ sources. IsIndex same_key sources.entries (map (λ row. row.key) rows.now)) }
+/// The rows by their points, in the same order. The first row whose point has a row before is refused.
+fn point_map(alloc: Global, rows: &[Row]) -> Result<IndexMap<PointKey, Row>, SettingsFault>
+    ensures { Tells (λ points. points.entries) result (double_sources (map (λ row. row.key) rows.now)) (by_point rows.now) }
 {
-    let mut sources = HashMap::with_capacity(alloc, rows.len())?;
+    let mut points = IndexMap::with_capacity(alloc, rows.len())?;
     for (position, row) in rows.iter().enumerate() {
-        if sources.insert(row.key, position)?.is_some() {
+        if points.insert(row.key, *row)?.is_some() {
             let fault = KeyFault {
                 fault: Fault::DoubleSource,
                 key: "index",
@@ -34,7 +34,7 @@ fn source_index(alloc: Global, rows: &[Row]) -> Result<HashMap<PointKey, usize>,
             return Err(fault.at(Section::Point, position));
         }
     }
-    Ok(sources)
+    Ok(points)
 }
 
 /// The information object is in use before.
@@ -49,32 +49,32 @@ fn double_address(section: Section, position: usize) -> SettingsFault
 }
 
 /// The positions of rows by their information objects. The first row whose object has a row before is refused.
-fn point_index(alloc: Global, rows: &[Row]) -> Result<HashMap<ObjectKey, usize>, SettingsFault>
+fn row_index(alloc: Global, rows: &[Row]) -> Result<HashMap<ObjectKey, usize>, SettingsFault>
     ensures passes { Passes result (map (λ n. complaint of.Point n (DoubleAddress, codes "address"))
         (repeated same_object 0 [] (map row_object rows.now))) }
-    ensures index { IfOk result (λ points. IsIndex same_object points.entries (map row_object rows.now)) }
+    ensures index { IfOk result (λ index. IsIndex same_object index.entries (map row_object rows.now)) }
 {
-    let mut points = HashMap::with_capacity(alloc, rows.len())?;
+    let mut index = HashMap::with_capacity(alloc, rows.len())?;
     for (position, row) in rows.iter().enumerate() {
         let object = ObjectKey {
             common_address: row.common_address,
             address: row.address,
         };
-        if points.insert(object, position)?.is_some() {
+        if index.insert(object, position)?.is_some() {
             return Err(double_address(Section::Point, position));
         }
     }
-    Ok(points)
+    Ok(index)
 }
 
 /// The positions of controls by their information objects. The first control whose object is a point's, or has a control
 /// before, is refused.
 fn control_index(
     alloc: Global,
-    points: &HashMap<ObjectKey, usize>,
+    row_objects: &HashMap<ObjectKey, usize>,
     controls: &[Control],
 ) -> Result<HashMap<ObjectKey, usize>, SettingsFault>
-    ensures passes { (objects : List ObjectKey) → IsIndex same_object points.now.entries objects
+    ensures passes { (objects : List ObjectKey) → IsIndex same_object row_objects.now.entries objects
         → Passes result (map (λ n. complaint of.Control n (DoubleAddress, codes "address"))
         (repeated same_object 0 objects (map control_object controls.now))) }
     ensures index { IfOk result (λ index. IsIndex same_object index.entries (map control_object controls.now)) }
@@ -85,7 +85,7 @@ fn control_index(
             common_address: control.common_address,
             address: control.address,
         };
-        if points.contains_key(&object) {
+        if row_objects.contains_key(&object) {
             return Err(double_address(Section::Control, position));
         }
         if index.insert(object, position)?.is_some() {
@@ -95,14 +95,14 @@ fn control_index(
     Ok(index)
 }
 
-/// The indexes of sections.
+/// The point map of sections, with the indexes and the known addresses beside it.
 #[derive(Drop)]
 pub(crate) struct Indexes {
-    /// The positions of the rows by their points.
-    pub(crate) sources: HashMap<PointKey, usize>,
-    /// Those of the rows, and those of the controls, by their information objects.
-    pub(crate) points: HashMap<ObjectKey, usize>,
-    pub(crate) controls: HashMap<ObjectKey, usize>,
+    /// The rows by their points, in the order of the file.
+    pub(crate) points: IndexMap<PointKey, Row>,
+    /// The positions of the rows, and those of the controls, by their information objects.
+    pub(crate) row_objects: HashMap<ObjectKey, usize>,
+    pub(crate) control_objects: HashMap<ObjectKey, usize>,
     /// The common addresses that clients may use.
     pub(crate) known: Vec<u16>,
 }
@@ -110,24 +110,23 @@ pub(crate) struct Indexes {
 impl Indexes {
     /// Those of sections. The first point or control whose source or information object stood before is refused.
     pub(crate) fn of(alloc: Global, sections: &Sections) -> Result<Indexes, SettingsFault>
-        ensures passes { Passes result (repeats_in sections.now) }
-        ensures sources { IfOk result (λ indexes.
-            IsIndex same_key indexes.sources.entries (map (λ row. row.key) sections.now.rows)) }
-        ensures points { IfOk result (λ indexes.
-            IsIndex same_object indexes.points.entries (map row_object sections.now.rows)) }
-        ensures controls { IfOk result (λ indexes.
-            IsIndex same_object indexes.controls.entries (map control_object sections.now.controls)) }
+        ensures points { Tells (λ indexes. indexes.points.entries) result (repeats_in sections.now)
+            (by_point sections.now.rows) }
+        ensures row_objects { IfOk result (λ indexes.
+            IsIndex same_object indexes.row_objects.entries (map row_object sections.now.rows)) }
+        ensures control_objects { IfOk result (λ indexes.
+            IsIndex same_object indexes.control_objects.entries (map control_object sections.now.controls)) }
         ensures known { IfOk result (λ indexes. indexes.known.items ≡ known_addresses sections.now) }
         ensures within { IfOk result (λ indexes. AllByRecursion (IsWithin 1 65534) indexes.known.items) }
     {
         let known = known_addresses(alloc, &sections.station, &sections.outstations)?;
-        let sources = source_index(alloc, &sections.rows)?;
-        let points = point_index(alloc, &sections.rows)?;
-        let controls = control_index(alloc, &points, &sections.controls)?;
+        let points = point_map(alloc, &sections.rows)?;
+        let row_objects = row_index(alloc, &sections.rows)?;
+        let control_objects = control_index(alloc, &row_objects, &sections.controls)?;
         Ok(Indexes {
-            sources,
             points,
-            controls,
+            row_objects,
+            control_objects,
             known,
         })
     }

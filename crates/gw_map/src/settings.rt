@@ -17,6 +17,7 @@ use crate::sections::Sections;
 use gw_entries::{Control, Outstation, Row, SettingsFault, Station};
 use gw_model::{ObjectKey, PointKey};
 use gw_time::Zone;
+use indexmap::IndexMap;
 use std::alloc::Global;
 use std::collections::HashMap;
 use std::fmt;
@@ -29,17 +30,17 @@ use toml::Table;
 pub struct Settings {
     station: Station,
     outstations: Vec<Outstation>,
-    rows: Vec<Row>,
+    /// The point map, in the order of the file.
+    points: IndexMap<PointKey, Row>,
     controls: Vec<Control>,
     known: Vec<u16>,
-    /// The positions of the rows by their points, and by their information objects.
-    row_sources: HashMap<PointKey, usize>,
+    /// The positions of the rows, and those of the controls, by their information objects.
     row_objects: HashMap<ObjectKey, usize>,
-    /// The positions of the controls by their information objects.
     control_objects: HashMap<ObjectKey, usize>,
 }
 
 impl Model for Settings {
+    ghost use Rattle.std.specs.Map.{values_of};
     ghost use Rattle.gw_map.specs.Settings.{Setup, IsKept, AreKnown, AreUnderKnown};
 
     ghost Value = { Setup };
@@ -47,14 +48,14 @@ impl Model for Settings {
     ghost view = { λ s. record {
       station = s.station;
       outstations = s.outstations.items;
-      rows = s.rows.items;
+      rows = values_of s.points.entries;
       controls = s.controls.items;
     } };
 
-    ghost invariant = { λ s. IsKept s.rows.items s.controls.items
-        s.row_sources.entries s.row_objects.entries s.control_objects.entries
+    ghost invariant = { λ s. IsKept s.points.entries s.controls.items
+        s.row_objects.entries s.control_objects.entries
         × AreKnown s.station s.outstations.items s.known.items
-        × AreUnderKnown s.station s.outstations.items s.rows.items s.controls.items };
+        × AreUnderKnown s.station s.outstations.items (values_of s.points.entries) s.controls.items };
 }
 
 impl fmt::Debug for Settings {
@@ -84,12 +85,11 @@ impl Settings {
         Ok(Settings {
             station: sections.station,
             outstations: sections.outstations,
-            rows: sections.rows,
+            points: indexes.points,
             controls: sections.controls,
             known: indexes.known,
-            row_sources: indexes.sources,
-            row_objects: indexes.points,
-            control_objects: indexes.controls,
+            row_objects: indexes.row_objects,
+            control_objects: indexes.control_objects,
         })
     }
 
@@ -143,7 +143,7 @@ impl Settings {
         ensures addresses { HasSingleAddresses self.now.rows self.now.controls }
         ensures known { AllByRecursion (λ (row : Row). IsTrue (is_known self.now row.common_address)) self.now.rows }
     {
-        self.rows.as_slice()
+        self.points.values().as_slice()
     }
 
     /// The controls, in the order of the file.
@@ -159,8 +159,8 @@ impl Settings {
     pub fn row_of(&self, key: &PointKey) -> Option<(usize, &Row)>
         ensures { option_map (λ found. (found.0, found.1.now)) result ≡ row_from 0 key.now self.now.rows }
     {
-        let position = *self.row_sources.get(key)?;
-        Some((position, self.rows.get(position)?))
+        let (position, _, row) = self.points.get_full(key)?;
+        Some((position, row))
     }
 
     /// The row with a common address and an address, with its position in `rows`.
@@ -173,7 +173,8 @@ impl Settings {
             address,
         };
         let position = *self.row_objects.get(&object)?;
-        Some((position, self.rows.get(position)?))
+        let (_, row) = self.points.get_index(position)?;
+        Some((position, row))
     }
 
     /// The control with a common address and an address, with its position in `controls`.

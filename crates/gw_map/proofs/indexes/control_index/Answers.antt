@@ -15,7 +15,7 @@ returns-then-contains_key-clause-passes c = λ objects points.
     let object = control_object c.index-controls-position.result in
     let front = map control_object (take c.loop-position.position c.args.controls.now) in
     let there : list_any (same_object object) objects ≡ true =
-    sym (index-has same_object c.args.points.now.entries objects object points)
+    sym (index-has same_object c.args.row_objects.now.entries objects object points)
     ∙ sym c.contains_key.ensures ∙ c.if-contains_key.true in
     tells_first c.double_address.result _ _ c.double_address.ensures
     (told _ _ _ (rep-found same_object control_object objects c.args.controls.now c.loop-position.position
@@ -30,7 +30,7 @@ returns-then-is_some-clause-passes c = λ objects points.
     sym (index-has same_object c.loop-position.index.entries front object c.loop-position.invariant.index)
     ∙ ap is_some (sym c.in_ok-insert.ensures.old) ∙ sym c.is_some.ensures ∙ c.if-is_some.true in
     let absent : list_any (same_object object) objects ≡ false =
-    sym (index-has same_object c.args.points.now.entries objects object points)
+    sym (index-has same_object c.args.row_objects.now.entries objects object points)
     ∙ sym c.contains_key.ensures ∙ c.if-contains_key.false in
     tells_first c.double_address-then-is_some.result _ _ c.double_address-then-is_some.ensures
     (told _ _ _ (rep-found same_object control_object objects c.args.controls.now c.loop-position.position
@@ -47,7 +47,7 @@ loop-position-preserved c =
     record {
       none = λ objects points.
           let absent : list_any (same_object object) objects ≡ false =
-          sym (index-has same_object c.args.points.now.entries objects object points)
+          sym (index-has same_object c.args.row_objects.now.entries objects object points)
           ∙ sym c.contains_key.ensures ∙ c.if-contains_key.false in
           rep-more same_object control_object objects c.args.controls.now c.loop-position.position
           c.index-controls-position.result (omega arith) (c.loop-position.invariant.none objects points)

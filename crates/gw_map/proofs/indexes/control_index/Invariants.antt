@@ -8,7 +8,7 @@ use Rattle.gw_map.proofs.indexes.control_index.Given as goal
 
 abbrev pub invariant-loop-position : goal.invariant-loop-position
 invariant-loop-position l = record {
-  none : (objects : List ObjectKey) → IsIndex same_object l.points.entries objects
+  none : (objects : List ObjectKey) → IsIndex same_object l.row_objects.entries objects
       → repeated same_object 0 objects (map control_object l.controls)
       ≡ repeated same_object l.position (objects ++ map control_object (take l.position l.controls))
       (map control_object (drop l.position l.controls));
