@@ -6,7 +6,7 @@ ghost use Rattle.jiff_core.specs.DateTime.{civil_nanos};
 ghost use Rattle.gw_time.specs.Tag.{is_in_range, has_day, civil_year, time_of_day, civil_milliseconds};
 ghost use Rattle.gw_time.specs.Spelling.{numbers_at};
 
-use jiff_core::civil::{Date, DateTime, Time};
+use jiff::civil::{Date, DateTime, Time};
 
 /// Seven octet binary time, CP56Time2a (IEC 60870-5-101, 7.2.6.18), as the numbers that it is made of.
 #[derive(Clone, Copy)]
@@ -82,10 +82,7 @@ pub(crate) fn civil_time(tag: BinaryTime) -> Option<DateTime>
     ensures high { IfSome result (λ shown. shown.date.year ≤ℤ pos 2099) }
 {
     let date = date_of(tag)?;
-    Some(DateTime {
-        date,
-        time: time_of(tag),
-    })
+    Some(date.to_datetime(time_of(tag)))
 }
 
 /// The date, if the month has the day.
@@ -117,8 +114,8 @@ pub(crate) fn numbers_showing(shown: DateTime, invalid: bool, summer: bool) -> B
     ensures numbers { (n : ℕ) → civil_nanos shown ≡ pos n *ℤ pos 1_000_000
         → result ≡ numbers_at invalid summer n }
 {
-    let (milliseconds, minute, hour) = numbers_of_time(shown.time);
-    let (day, month, year) = numbers_of_date(shown.date);
+    let (milliseconds, minute, hour) = numbers_of_time(shown.time());
+    let (day, month, year) = numbers_of_date(shown.date());
     BinaryTime {
         milliseconds,
         minute,
@@ -137,8 +134,8 @@ fn numbers_of_time(time: Time) -> (u16, u8, u8)
     ensures minute { result.1 ≡ time.minute }
     ensures hour { result.2 ≡ time.hour }
 {
-    let milliseconds = 1000 * u32::from(time.second) + time.subsec_nanosecond / 1_000_000;
-    (milliseconds as u16, time.minute, time.hour)
+    let milliseconds = 1000 * i32::from(time.second()) + i32::from(time.millisecond());
+    (milliseconds as u16, time.minute() as u8, time.hour() as u8)
 }
 
 /// Day of month, month, and year from 2000 on of a date.
@@ -149,5 +146,6 @@ fn numbers_of_date(date: Date) -> (u8, u8, u8)
     ensures month { result.1 ≡ date.month }
     ensures year { pos (2000 + result.2) ≡ date.year }
 {
-    (date.day, date.month, (date.year - 2000) as u8)
+    let year = date.year() - 2000;
+    (date.day() as u8, date.month() as u8, year as u8)
 }

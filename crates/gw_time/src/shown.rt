@@ -1,5 +1,5 @@
 //! What the clocks of the station show.
-ghost use Rattle.std.specs.Prelude.{◌≡◌, ◌↔◌, ◌≤◌, ◌*◌, ℕ, ℤ, pos, ◌≤ℤ◌, ◌-ℤ◌, ◌*ℤ◌, ◌&&◌, int_div, IsSome, IfSome};
+ghost use Rattle.std.specs.Prelude.{◌≡◌, ◌↔◌, ◌≤◌, ◌*◌, ℕ, ℤ, pos, ◌≤ℤ◌, ◌-ℤ◌, ◌*ℤ◌, ◌&&◌, IsSome, IfSome};
 ghost use Rattle.jiff_core.specs.DateTime.{civil_nanos};
 ghost use Rattle.gw_model.specs.Clocks.{tells_summer, minutes_ahead, is_summer, shown_at};
 ghost use Rattle.gw_time.specs.Rule.{clocks_of};
@@ -7,8 +7,9 @@ ghost use Rattle.gw_time.specs.Window.{IsFrom2000To2099};
 
 use crate::rule::seconds_ahead;
 use crate::zone::Zone;
-use jiff_core::civil::DateTime;
-use jiff_core::{Offset, Timestamp};
+use jiff::Timestamp;
+use jiff::civil::DateTime;
+use jiff::tz::Offset;
 
 /// The last instant that clocks show at every offset, in milliseconds since 1970: it is in the year 9999.
 const LAST_INSTANT: u64 = 253_402_207_200_999;
@@ -31,7 +32,7 @@ fn is_summer(zone: &Zone, timestamp: Timestamp) -> bool
 fn offset(zone: &Zone, summer: bool) -> Offset
     ensures { result.seconds ≡ pos 60 *ℤ minutes_ahead (clocks_of zone.now) summer }
 {
-    Offset::from_seconds(60 * i64::from(zone.minutes_ahead(summer))).unwrap()
+    Offset::from_seconds(60 * i32::from(zone.minutes_ahead(summer))).unwrap()
 }
 
 /// What the clocks show at an instant, where that is in the years 2000 to 2099, and whether it is summer time.
@@ -46,7 +47,7 @@ pub(crate) fn shown_at(zone: &Zone, instant: u64) -> Option<(DateTime, bool)>
     let timestamp = timestamp_of(instant)?;
     let summer = is_summer(zone, timestamp);
     let civil = offset(zone, summer).to_datetime(timestamp);
-    if civil.date.year < 2000 || civil.date.year > 2099 {
+    if civil.year() < 2000 || civil.year() > 2099 {
         return None;
     }
     Some((civil, summer))
@@ -62,7 +63,7 @@ pub(crate) fn instant_of(zone: &Zone, civil: DateTime, summer: bool) -> u64
 {
     let offset = offset(zone, zone.is_of_summer(summer));
     let timestamp = offset.to_timestamp(civil).unwrap();
-    milliseconds_of(timestamp) as u64
+    timestamp.as_millisecond() as u64
 }
 
 /// An instant, given in milliseconds since 1970, if clocks show it at every offset.
@@ -73,12 +74,5 @@ fn timestamp_of(instant: u64) -> Option<Timestamp>
     if instant > LAST_INSTANT {
         return None;
     }
-    Timestamp::from_nanosecond(i128::from(instant) * 1_000_000).ok()
-}
-
-/// The whole milliseconds from 1970 to a time, towards zero.
-fn milliseconds_of(timestamp: Timestamp) -> i64
-    ensures { result ≡ int_div timestamp.nanosecond (pos 1_000_000) }
-{
-    (timestamp.nanosecond / 1_000_000) as i64
+    Timestamp::from_millisecond(instant as i64).ok()
 }

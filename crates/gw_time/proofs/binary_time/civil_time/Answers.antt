@@ -8,8 +8,8 @@ use Rattle.gw_time.proofs.binary_time.civil_time.Goals as goal
 pub returns-clause-value : goal.returns-clause-value
 returns-clause-value c =
     let x = c.args.tag in
-    let date : IsYmd (civil_year x) (pos x.month) (pos x.day) c.in_ok-date.date =
-    c.in_ok-date.ensures.value in
-    let time : time_nanos c.time_of.result ≡ time_of_day x * 1_000_000 =
-    c.time_of.ensures in
-    civil_is x (record { date = c.in_ok-date.date; time = c.time_of.result }) date time
+    let date : IsYmd (civil_year x) (pos x.month) (pos x.day) c.to_datetime.result.date =
+    rw c.to_datetime.ensures.date c.in_ok-date.ensures.value in
+    let time : time_nanos c.to_datetime.result.time ≡ time_of_day x * 1_000_000 =
+    rw c.to_datetime.ensures.time c.time_of.ensures in
+    civil_is x c.to_datetime.result date time

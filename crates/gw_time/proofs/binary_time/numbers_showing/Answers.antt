@@ -17,12 +17,12 @@ returns-clause-numbers c n e =
       year = date.2;
     } in
     let has : HasNumbers c.args.shown x = record {
-      milliseconds = c.numbers_of_time-milliseconds.ensures.milliseconds;
-      minute = c.numbers_of_time-milliseconds.ensures.minute;
-      hour = c.numbers_of_time-milliseconds.ensures.hour;
-      day = c.numbers_of_date-day.ensures.day;
-      month = c.numbers_of_date-day.ensures.month;
-      year = c.numbers_of_date-day.ensures.year;
+      milliseconds = rw (← c.time.ensures) c.numbers_of_time-milliseconds.ensures.milliseconds;
+      minute = rw (← c.time.ensures) c.numbers_of_time-milliseconds.ensures.minute;
+      hour = rw (← c.time.ensures) c.numbers_of_time-milliseconds.ensures.hour;
+      day = rw (← c.date.ensures) c.numbers_of_date-day.ensures.day;
+      month = rw (← c.date.ensures) c.numbers_of_date-day.ensures.month;
+      year = rw (← c.date.ensures) c.numbers_of_date-day.ensures.year;
       low = c.requires.low;
       high = c.requires.high;
     } in

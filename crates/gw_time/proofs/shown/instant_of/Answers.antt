@@ -35,7 +35,7 @@ cast_back a b range e =
     let high = range.1 in
     omega (arith, signed_casts)
 
-near : (c : goal.After-milliseconds_of) → IsNear (civil_nanos c.args.civil)
+near : (c : goal.After-as_millisecond) → IsNear (civil_nanos c.args.civil)
     (minutes_ahead (clocks_of c.args.zone.now) c.is_of_summer.result) c.unwrap-timestamp.result.nanosecond
 near c =
     let zone = c.args.zone.now in
@@ -49,9 +49,9 @@ near c =
           ∙ near_by z minutes _ c.offset-offset.ensures;
     }
 
-milliseconds_within : (c : goal.After-milliseconds_of)
-    → (pos 0 ≤ℤ c.milliseconds_of.result) × (c.milliseconds_of.result <ℤ pos 5_000_000_000_000)
-milliseconds_within c = rw c.milliseconds_of.ensures (millisecond_range (civil_nanos c.args.civil)
+milliseconds_within : (c : goal.After-as_millisecond)
+    → (pos 0 ≤ℤ c.as_millisecond.result) × (c.as_millisecond.result <ℤ pos 5_000_000_000_000)
+milliseconds_within c = rw c.as_millisecond.ensures (millisecond_range (civil_nanos c.args.civil)
     (minutes_ahead (clocks_of c.args.zone.now) c.is_of_summer.result) _
     (nanos_in_century c.args.civil c.requires.low c.requires.high) (near c))
 
@@ -65,7 +65,7 @@ overflow_cast-result c =
 pub returns : goal.returns
 returns c m e =
     let clocks = clocks_of c.args.zone.now in
-    cast_back c.milliseconds_of.result _ (milliseconds_within c) (c.milliseconds_of.ensures
+    cast_back c.as_millisecond.result _ (milliseconds_within c) (c.as_millisecond.ensures
     ∙ whole_millisecond (civil_nanos c.args.civil) (minutes_ahead clocks c.is_of_summer.result) _ m
     (nanos_in_century c.args.civil c.requires.low c.requires.high) (near c) e)
     ∙ ap (λ (b : Bool). m -ℤ (pos 60000 *ℤ minutes_ahead clocks b)) c.is_of_summer.ensures

@@ -6,7 +6,7 @@ use Rattle.gw_time.specs.Rule.{clocks_of}
 use Rattle.gw_time.proofs.Clocks.{window_is_of_shown, shown_nanos, shown_has_timestamp}
 use Rattle.gw_time.proofs.Rules.{zone_clocks}
 use Rattle.gw_time.proofs.shown.shown_at.Goals as goal
-use Rattle.gw_time.proofs.shown.shown_at.Goals.{In_ok-timestamp, then-civil-lt2000-via-then-civil-lt2000, then-civil-lt2000-via-else-civil-lt2000+then-civil-gt2099}
+use Rattle.gw_time.proofs.shown.shown_at.Goals.{In_ok-timestamp, then-year-lt2000-via-then-year-lt2000, then-year-lt2000-via-else-year-lt2000+then-year-gt2099}
 
 pub returns-in_err-timestamp-clause-window : goal.returns-in_err-timestamp-clause-window
 returns-in_err-timestamp-clause-window c =
@@ -17,8 +17,8 @@ returns-in_err-timestamp-clause-window c =
           (zone_clocks zone) within))),
     )
 
-pub returns-then-civil-lt2000-clause-window : goal.returns-then-civil-lt2000-clause-window
-returns-then-civil-lt2000-clause-window c =
+pub returns-then-year-lt2000-clause-window : goal.returns-then-year-lt2000-clause-window
+returns-then-year-lt2000-clause-window c =
     let t = c.args.instant in
     let clocks = clocks_of c.args.zone.now in
     let shown = c.to_datetime-civil.result in
@@ -27,9 +27,9 @@ returns-then-civil-lt2000-clause-window c =
     (c.is_summer-summer.ensures t c.in_ok-timestamp.ensures.value) c.offset.ensures c.to_datetime-civil.ensures in (
       λ some. absurd (cc),
       λ within. let y = (window_is_of_shown clocks t shown value).0 within in
-          elim c.then-civil-lt2000.branch [
-            | then-civil-lt2000-via-then-civil-lt2000 w ↦ absurd (omega (arith, signed_casts))
-            | then-civil-lt2000-via-else-civil-lt2000+then-civil-gt2099 w ↦ absurd (omega (arith, signed_casts))
+          elim c.then-year-lt2000.branch [
+            | then-year-lt2000-via-then-year-lt2000 w ↦ absurd (omega (arith, signed_casts))
+            | then-year-lt2000-via-else-year-lt2000+then-year-gt2099 w ↦ absurd (omega (arith, signed_casts))
           ],
     )
 
