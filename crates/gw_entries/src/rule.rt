@@ -5,6 +5,7 @@ ghost use Rattle.gw_model.specs.Rule.{IsRuleMoment, IsDaylight, IsClockRule};
 ghost use Rattle.gw_entries.specs.Rule.{day_of, moment_of, daylight_of, rule_of, rule_in};
 
 use gw_model::{ClockRule, Daylight, RuleDay, RuleMoment};
+use jiff::tz::TimeZone;
 use jiff_tz::posix;
 
 /// The rule of POSIX's TZ variable (IEEE Std 1003.1) that a text is, if it's one.
@@ -12,8 +13,10 @@ pub(crate) fn rule_read(text: &str) -> Option<ClockRule>
     ensures value { result ≡ rule_in text.now }
     ensures within { IfSome result IsClockRule }
 {
-    let rule = posix::TimeZone::parse(text.as_bytes()).ok()?;
-    Some(rule_of(rule))
+    match TimeZone::posix(text).map(|zone| zone.to_plain()) {
+        Ok(jiff_tz::TimeZone::Posix(rule)) => Some(rule_of(rule)),
+        _ => None,
+    }
 }
 
 /// A rule without the names of its times.
