@@ -1,7 +1,6 @@
 //! Moments and spans of time.
 
-use jiff_core::Timestamp;
-use jiff_fmt::temporal::DateTimePrinter;
+use jiff::Timestamp;
 use std::fmt;
 
 /// A moment, by its milliseconds since 1970, as `2023-11-14T22:13:20Z`; `-` past the year 9999.
@@ -10,9 +9,8 @@ pub struct Moment(pub u64);
 
 impl fmt::Display for Moment {
     fn fmt<W: fmt::Write>(&self, f: &mut fmt::Formatter<W>) -> fmt::Result {
-        let seconds = i128::from(self.0 / 1000);
-        match Timestamp::from_nanosecond(seconds * 1_000_000_000) {
-            Ok(moment) => f.write_str(DateTimePrinter::new().timestamp_text(moment).as_str()),
+        match Timestamp::from_second((self.0 / 1000) as i64) {
+            Ok(moment) => write!(f, "{moment}"),
             Err(_) => f.write_str("-"),
         }
     }
