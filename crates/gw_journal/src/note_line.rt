@@ -8,8 +8,7 @@ use crate::event::{JournalEvent, Priority, Subject};
 use crate::unreadable::Unreadable;
 use gw_text::Plain;
 use iec_command::Command;
-use jiff_core::Timestamp;
-use jiff_fmt::temporal::DateTimePrinter;
+use jiff::Timestamp;
 use std::fmt;
 use std::net::IpAddr;
 
@@ -39,9 +38,8 @@ struct Instant(u64);
 
 impl fmt::Display for Instant {
     fn fmt<W: fmt::Write>(&self, f: &mut fmt::Formatter<W>) -> fmt::Result {
-        let printer = DateTimePrinter::new().precision(Some(3));
         match Timestamp::from_nanosecond(i128::from(self.0) * 1_000_000) {
-            Ok(instant) => f.write_str(printer.timestamp_text(instant).as_str()),
+            Ok(instant) => write!(f, "{instant:.3}"),
             Err(_) => f.write_str("-"),
         }
     }
