@@ -4,6 +4,7 @@ use crate::profile::commands::{write_command_transmission, write_command_types};
 use crate::profile::types::point_types;
 use gw_map::{Row, Settings, Show, Station};
 use gw_text::Plain;
+use jiff::tz::TimeZone;
 use jiff_tz::posix;
 use std::io::{self, Write};
 
@@ -205,9 +206,9 @@ fn mark_of(rows: &[Row], show: Show) -> &'static str {
 fn write_functions<W: Write>(station: &Station, writer: &mut W) -> io::Result<()> {
     writer.write_all(FUNCTIONS.as_bytes())?;
     write_offset(station.offset_minutes, writer)?;
-    match posix::TimeZone::parse(station.rule_text.as_bytes()) {
-        Err(_) => writer.write_all(b"the whole year round\n"),
-        Ok(rule) => write_rule(&rule, writer),
+    match TimeZone::posix(station.rule_text.as_str()).map(|zone| zone.to_plain()) {
+        Ok(jiff_tz::TimeZone::Posix(rule)) => write_rule(&rule, writer),
+        _ => writer.write_all(b"the whole year round\n"),
     }
 }
 
