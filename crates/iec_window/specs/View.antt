@@ -1,6 +1,5 @@
 -- What a contract sees of a window, and what each window keeps.
 use Rattle.std.specs.Prelude.{◌≡◌, ◌+◌, ◌^◌, ◌<◌, ◌≤◌, nat_lt, is_some, length}
-use Rattle.std.specs.VecDeque.{deque_capacity}
 use Rattle.iec_window.specs.declared.window.Window.TheInside.{Inside}
 use Rattle.iec_window.specs.Counts.{WindowCounts}
 
@@ -20,7 +19,7 @@ counts_in s = record {
 pub record IsWindow (s : Inside) : Type 0 where
   pub numbered : s.limits.k < 32768
   pub bounded : length s.waiting.items ≤ s.limits.k
-  pub roomy : s.limits.k ≤ deque_capacity s.waiting
+  pub roomy : s.limits.k ≤ s.waiting.capacity
   pub counted : s.acknowledged + length s.waiting.items < 2 ^ 64
   pub received : s.owed ≤ s.received
   pub since : is_some s.owed_since ≡ nat_lt 0 s.owed

@@ -1,6 +1,5 @@
 //! The window of one end of a connection.
-ghost use Rattle.std.specs.Prelude.{◌≡◌, ℕ, ◌+◌, ◌^◌, ◌<◌, ◌≤◌, ◌↔◌, true, IsTrue, IfOk, OnOk, nat_lt, length, slice_get, drop};
-ghost use Rattle.std.specs.VecDeque.{deque_capacity};
+ghost use Rattle.std.specs.Prelude.{◌≡◌, ℕ, ◌+◌, ◌^◌, ◌<◌, ◌≤◌, ◌↔◌, [], true, IsTrue, IfOk, OnOk, nat_lt, length};
 ghost use Rattle.iec_window.specs.Counts.{WindowCounts, sent_in_all};
 ghost use Rattle.iec_window.specs.Sequence.{Acknowledges, send_number, receive_number, is_right_send, new_acknowledgements, is_right_receive};
 ghost use Rattle.iec_window.specs.Timers.{has_passed, t1_passed, owes_ack, owes_test, due_at};
@@ -9,9 +8,9 @@ ghost use Rattle.iec_window.specs.Steps.{counts_at_start, counts_after_frame, an
 use crate::due::Due;
 use crate::fault::WindowFault;
 use crate::limits::Limits;
+use circular_buffer::HeapCircularBuffer;
 use gw_model::Memory;
 use std::alloc::Global;
-use std::collections::VecDeque;
 use std::marker::Model;
 
 /// How many sequence numbers there are.
@@ -27,7 +26,7 @@ pub struct Window {
     limits: Limits,
     // I formats sent: how many are acknowledged, and when each of the others was sent, the oldest first.
     acknowledged: u64,
-    waiting: VecDeque<u64>,
+    waiting: HeapCircularBuffer<u64>,
     // I formats received, how many of these are not acknowledged, and when the oldest of them came.
     received: u64,
     owed: u64,
@@ -57,7 +56,7 @@ impl Window {
         requires { k < 32768 }
         ensures { IfOk result (λ v. v ≡ counts_at_start (record { k = k; w = w; t1 = t1; t2 = t2; t3 = t3 }) 0) }
     {
-        let waiting = VecDeque::with_capacity(alloc, usize::from(k))?;
+        let waiting = HeapCircularBuffer::with_capacity(alloc, usize::from(k))?;
         Ok(Window {
             limits: Limits { k, w, t1, t2, t3 },
             acknowledged: 0,
@@ -70,22 +69,43 @@ impl Window {
         })
     }
 
-    /// An equal value, with the same room, or `Memory` where there is none for the moments of k I formats.
+    /// An equal value, with the same room, or `Memory` where there is none for as many moments.
     pub fn copy(&self) -> Result<Window, Memory>
         ensures { IfOk result (λ copy. copy ≡ self.now) }
     {
-        let none = VecDeque::new(*self.waiting.allocator());
-        let waiting = refilled(none, &self.waiting, usize::from(self.limits.k))?;
-        Ok(Window { waiting, ..*self })
+        let room = HeapCircularBuffer::with_capacity(
+            *self.waiting.allocator(),
+            self.waiting.capacity(),
+        )?;
+        Ok(self.copy_into(room))
     }
 
     /// The same, in the memory of a window that isn't needed any more, so that none is asked for where that suffices.
     pub fn copy_over(&self, spare: Window) -> Result<Window, Memory>
         ensures { IfOk result (λ copy. copy ≡ self.now) }
     {
-        let Window { waiting: spare, .. } = spare;
-        let waiting = refilled(spare, &self.waiting, usize::from(self.limits.k))?;
-        Ok(Window { waiting, ..*self })
+        let Window {
+            waiting: mut room,
+            ..
+        } = spare;
+        if room.capacity() < usize::from(self.limits.k) {
+            return self.copy();
+        }
+        room.clear();
+        Ok(self.copy_into(room))
+    }
+
+    /// An equal value, with this room for the moments of k I formats.
+    fn copy_into(&self, room: HeapCircularBuffer<u64>) -> Window
+        requires empty { room.items ≡ [] }
+        requires roomy { self.now.limits.k ≤ room.capacity }
+        ensures { result ≡ self.now }
+    {
+        let mut waiting = room;
+        let (front, back) = self.waiting.as_slices();
+        waiting.extend_from_slice(front);
+        waiting.extend_from_slice(back);
+        Window { waiting, ..*self }
     }
 
     /// A connection begins: all counts are 0, nothing waits, and t3 runs from this moment.
@@ -181,7 +201,8 @@ impl Window {
         ensures counted { Acknowledges nr self.old self.new.acknowledged }
     {
         let count = self.new_acknowledgements(nr);
-        forget(&mut self.waiting, count as usize);
+        let others = self.waiting.len() - count as usize;
+        self.waiting.truncate_front(others);
         self.acknowledged += count;
         self.heard(moment);
     }
@@ -210,7 +231,7 @@ impl Window {
         ensures after { self.new ≡ counts_after_sending_i moment self.old }
     {
         let sent = self.acknowledged + self.waiting.len() as u64;
-        self.waiting.push_back_reserved(moment);
+        self.waiting.push_back(moment);
         let nr = self.ack_sent();
         ((sent % NUMBERS) as u16, nr)
     }
@@ -257,7 +278,7 @@ impl Window {
     pub fn t1_passed(&self, moment: u64) -> bool
         ensures { result ≡ t1_passed moment self.now }
     {
-        has_passed(self.limits.t1, oldest(&self.waiting), moment)
+        has_passed(self.limits.t1, self.waiting.front().copied(), moment)
             || has_passed(self.limits.t1, self.test, moment)
     }
 
@@ -295,38 +316,4 @@ fn has_passed(limit: u64, since: Option<u64>, moment: u64) -> bool
     ensures { result ≡ has_passed limit since moment }
 {
     since.is_some_and(|since| moment >= since && moment - since >= limit)
-}
-
-/// The first of these moments.
-fn oldest(waiting: &VecDeque<u64>) -> Option<u64>
-    ensures { result ≡ slice_get waiting.now.items 0 }
-{
-    waiting.front().copied()
-}
-
-/// The same moments, with room for so many at least, in the memory of a spare queue where that suffices.
-fn refilled(
-    mut spare: VecDeque<u64>,
-    waiting: &VecDeque<u64>,
-    room: usize,
-) -> Result<VecDeque<u64>, Memory>
-    ensures items { IfOk result (λ copy. copy.items ≡ waiting.now.items) }
-    ensures room { IfOk result (λ copy. room ≤ deque_capacity copy) }
-{
-    spare.clear();
-    let mut moments = spare.into_vec();
-    moments.reserve(room)?;
-    let (front, back) = waiting.as_slices();
-    moments.extend_from_slice(front)?;
-    moments.extend_from_slice(back)?;
-    Ok(VecDeque::from_vec(moments))
-}
-
-/// Drops the first of these moments, as many as that.
-fn forget(waiting: &mut VecDeque<u64>, count: usize)
-    requires { count ≤ length waiting.old.items }
-    ensures items { waiting.new.items ≡ drop count waiting.old.items }
-    ensures capacity { deque_capacity waiting.new ≡ deque_capacity waiting.old }
-{
-    waiting.drain(..count);
 }
