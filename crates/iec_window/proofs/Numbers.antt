@@ -35,3 +35,21 @@ new_acknowledgements-means nr c ahead width h small e f = (
       (c.acknowledged + new_acknowledgements nr c, Acknowledges-new_acknowledgements nr c h (omega (arith, le))),
   λ a. let le : ahead ≤ width = omega (arith, new_acknowledgements-within nr c a.0 small a.1) in search rules,
 )
+
+-- of a count, and as many more: a number that is no further ahead leaves all but those beyond it
+pub ahead_leaves : (nr from width : ℕ) → nr < 32768 → width < 32768 → (nr + 32768 - from % 32768) % 32768 ≤ width →
+    from + (nr + 32768 - from % 32768) % 32768 ≡ from + width - (from + width + 32768 - nr) % 32768
+ahead_leaves nr from width small few within = omega arith
+
+pub ahead_within : (nr from width : ℕ) → nr < 32768 → width < 32768 → (nr + 32768 - from % 32768) % 32768 ≤ width
+    → (from + width + 32768 - nr) % 32768 ≤ width
+ahead_within nr from width small few within = omega arith
+
+pub within_ahead : (nr from width : ℕ) → nr < 32768 → width < 32768 → (from + width + 32768 - nr) % 32768 ≤ width
+    → (nr + 32768 - from % 32768) % 32768 ≤ width
+within_ahead nr from width small few within = omega arith
+
+-- all but those beyond the number of a count are that count
+pub named_leaves : (nr all count width : ℕ) → width < 32768 → count ≤ all → all ≤ count + width → nr ≡ count % 32768
+    → all - (all + 32768 - nr) % 32768 ≡ count
+named_leaves nr all count width few low high e = omega arith

@@ -10,7 +10,7 @@ use Rattle.iec_window.proofs.Numbers.{Acknowledges-new_acknowledgements, new_ack
 
 -- ---- N(R)
 
-both : (a b : Bool) → a && b ≡ true → (a ≡ true) × (b ≡ true)
+pub both : (a b : Bool) → a && b ≡ true → (a ≡ true) × (b ≡ true)
 both true b e = (refl, e)
 both false b e = absurd cc
 

@@ -1,19 +1,19 @@
--- A connection as the list of what was sent and received, the newest first, with counts instead of sequence numbers
--- (IEC 60870-5-104, 5.1 and 5.2); and what it comes to, read off the whole list.
-use Rattle.std.specs.Prelude.{ℕ, ◌%◌, ◌<◌, ◌≤◌, List, [], ◌∷◌, ◌++◌, length, drop, Option, Some, None, slice_get}
+-- A connection as the list of what was sent and received, the newest first (IEC 60870-5-104, 5.1 and 5.2); what of it
+-- is legal; and what that comes to, read off the whole list.
+use Rattle.std.specs.Prelude.{ℕ, ◌+◌, ◌-◌, ◌%◌, ◌==◌, ◌&&◌, Bool, true, nat_lt, nat_le, List, [], ◌∷◌, ◌++◌, length, drop, Option, Some, None, slice_get, if◌then◌else◌}
 use Rattle.iec_window.specs.declared.limits.Limits.{Limits}
 use Rattle.iec_window.specs.Counts.{WindowCounts}
-use Rattle.iec_window.specs.Sequence.{numbers, receive_number}
+use Rattle.iec_window.specs.Sequence.{numbers}
 use Rattle.iec_window.specs.Steps.{counts_at_start, first_of, counts_after_frame, counts_after_s, counts_after_i, counts_after_sending_s, counts_after_sending_i, counts_after_sending_test, counts_after_confirmation}
 
 -- SentI: an I format was sent, at that moment; SentS: an S format; SentTest: a TESTFR act, at that moment
--- GotI: an I format came that acknowledges so many in all, at that moment; GotS: an S format
+-- GotI: an I format came with this N(S) and N(R), at that moment; GotS: an S format with this N(R)
 -- GotConfirmation: a TESTFR con came, at that moment; GotOther: another U format
 pub data Transmission : Type 0 where
   SentI : ℕ → Transmission
   SentS : Transmission
   SentTest : ℕ → Transmission
-  GotI : ℕ → ℕ → Transmission
+  GotI : ℕ → ℕ → ℕ → Transmission
   GotS : ℕ → ℕ → Transmission
   GotConfirmation : ℕ → Transmission
   GotOther : ℕ → Transmission
@@ -27,14 +27,18 @@ sent_at (_ ∷ older) = sent_at older
 -- when each I format came, the oldest first
 abbrev pub got_at : List Transmission → List ℕ
 got_at [] = []
-got_at (GotI n moment ∷ older) = got_at older ++ moment ∷ []
+got_at (GotI ns nr moment ∷ older) = got_at older ++ moment ∷ []
 got_at (_ ∷ older) = got_at older
 
--- how many I formats are acknowledged by the newest frame that came with N(R)
+-- how many I formats that were sent lie beyond those that N(R) acknowledges
+abbrev pub beyond : ℕ → List Transmission → ℕ
+beyond nr frames = (length (sent_at frames) + numbers - nr) % numbers
+
+-- how many I formats are acknowledged: all but those beyond the newest N(R) that came
 abbrev pub acknowledged_by : List Transmission → ℕ
 acknowledged_by [] = 0
-acknowledged_by (GotI n moment ∷ older) = n
-acknowledged_by (GotS n moment ∷ older) = n
+acknowledged_by (GotI ns nr moment ∷ older) = length (sent_at older) - beyond nr older
+acknowledged_by (GotS nr moment ∷ older) = length (sent_at older) - beyond nr older
 acknowledged_by (_ ∷ older) = acknowledged_by older
 
 -- how many I formats had come when the newest frame with N(R) was sent
@@ -55,8 +59,8 @@ owed_at frames = drop (receipted_by frames) (got_at frames)
 -- when the newest frame came, or else the connection began
 abbrev pub heard_at : ℕ → List Transmission → ℕ
 heard_at start [] = start
-heard_at start (GotI n moment ∷ older) = moment
-heard_at start (GotS n moment ∷ older) = moment
+heard_at start (GotI ns nr moment ∷ older) = moment
+heard_at start (GotS nr moment ∷ older) = moment
 heard_at start (GotConfirmation moment ∷ older) = moment
 heard_at start (GotOther moment ∷ older) = moment
 heard_at start (_ ∷ older) = heard_at start older
@@ -81,24 +85,31 @@ counts_of limits start frames = record {
   test = test_at frames;
 }
 
--- No I format was sent with k others not acknowledged, and each N(R) that came acknowledges no fewer than the
--- one before, and no more than were sent.
-abbrev pub IsLegal : Limits → List Transmission → Type 0
-IsLegal limits [] = Unit {0}
-IsLegal limits (SentI moment ∷ older) = (length (waiting_at older) < limits.k) × IsLegal limits older
-IsLegal limits (GotI n moment ∷ older) =
-    (acknowledged_by older ≤ n) × (n ≤ length (sent_at older)) × IsLegal limits older
-IsLegal limits (GotS n moment ∷ older) =
-    (acknowledged_by older ≤ n) × (n ≤ length (sent_at older)) × IsLegal limits older
-IsLegal limits (_ ∷ older) = IsLegal limits older
+-- N(R) is right: it has 15 bits, and no more lie beyond it than aren't acknowledged
+abbrev pub is_right : ℕ → List Transmission → Bool
+is_right nr frames = nat_lt nr numbers && nat_le (beyond nr frames) (length (waiting_at frames))
 
--- what a window makes of a frame: it sees the numbers alone, the counts modulo 32,768
+-- behind these an I format is sent with fewer than k others not acknowledged, or comes with the next N(S) and a right
+-- N(R); an S format comes with a right N(R); or it is another frame
+abbrev pub is_legal : Limits → Transmission → List Transmission → Bool
+is_legal limits (SentI moment) older = nat_lt (length (waiting_at older)) limits.k
+is_legal limits (GotI ns nr moment) older = (ns == length (got_at older) % numbers) && is_right nr older
+is_legal limits (GotS nr moment) older = is_right nr older
+is_legal limits _ older = true
+
+-- those that are legal behind the legal ones before them
+abbrev pub legal : Limits → List Transmission → List Transmission
+legal limits [] = []
+legal limits (frame ∷ older) =
+    let before = legal limits older in if is_legal limits frame before then frame ∷ before else before
+
+-- what a window makes of a frame: nothing, where it may not send it, or where a number isn't right
 abbrev pub step : Transmission → WindowCounts → WindowCounts
-step (SentI moment) c = counts_after_sending_i moment c
+step (SentI moment) c = if nat_lt (length c.waiting) c.limits.k then counts_after_sending_i moment c else c
 step SentS c = counts_after_sending_s c
 step (SentTest moment) c = counts_after_sending_test moment c
-step (GotI n moment) c = counts_after_i (receive_number c) (n % numbers) moment c
-step (GotS n moment) c = counts_after_s (n % numbers) moment c
+step (GotI ns nr moment) c = counts_after_i ns nr moment c
+step (GotS nr moment) c = counts_after_s nr moment c
 step (GotConfirmation moment) c = counts_after_confirmation moment c
 step (GotOther moment) c = counts_after_frame moment c
 

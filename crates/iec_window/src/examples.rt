@@ -3,6 +3,7 @@ ghost use Rattle.std.specs.Prelude.{◌≡◌, ◌∷◌, [], true, false, map, 
 ghost use Rattle.iec_window.specs.Sequence.{send_number, is_right_send, is_right_receive};
 ghost use Rattle.iec_window.specs.Timers.{t1_passed, owes_ack, due_at};
 ghost use Rattle.iec_window.specs.Steps.{counts_at_start, counts_after_s, answer_to_i, counts_after_i, counts_after_sending_i, counts_after_sending_test};
+ghost use Rattle.iec_window.specs.History.{SentI, GotI, GotS, legal, waiting_at};
 ghost use Rattle.iec_window.specs.Examples.{usual, sender_counts, receiver_counts};
 ghost use Rattle.iec_window.specs.declared.fault.WindowFault.TheVariants.{WrongSend, WrongReceive};
 ghost use Rattle.iec_window.specs.declared.due.Due.TheVariants as due;
@@ -52,4 +53,17 @@ pub fn timers()
     ensures t3_while_waiting { due_at 20100 (record (sender_counts 0 (20000 ∷ [])) { last_heard = 100 }) ≡ due.Test }
     ensures ends { map (λ moment. due_at moment (counts_after_sending_test 20100 (counts_at_start usual 100)))
         (20100 ∷ 35099 ∷ 35100 ∷ []) ≡ due.None ∷ due.None ∷ due.Close ∷ [] }
+{}
+
+/// What is legal of a connection, the newest frame first.
+pub fn connections()
+    // N(R) 0 acknowledges fewer than 1 before it, and 3 more than were sent.
+    ensures receive { legal usual (GotS 0 60 ∷ GotS 3 50 ∷ GotS 1 40 ∷ SentI 20 ∷ SentI 10 ∷ [])
+        ≡ GotS 1 40 ∷ SentI 20 ∷ SentI 10 ∷ [] }
+    ensures waiting { waiting_at (GotS 1 40 ∷ SentI 20 ∷ SentI 10 ∷ []) ≡ 20 ∷ [] }
+    ensures send { legal usual (GotI 2 0 60 ∷ GotI 1 0 50 ∷ GotI 1 0 40 ∷ GotI 0 0 30 ∷ [])
+        ≡ GotI 2 0 60 ∷ GotI 1 0 40 ∷ GotI 0 0 30 ∷ [] }
+    // Room for one comes with an acknowledgement.
+    ensures k { legal (record usual { k = 1 }) (SentI 40 ∷ GotS 1 30 ∷ SentI 20 ∷ SentI 10 ∷ [])
+        ≡ SentI 40 ∷ GotS 1 30 ∷ SentI 10 ∷ [] }
 {}
