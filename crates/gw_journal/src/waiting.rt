@@ -2,9 +2,9 @@
 
 use crate::event::JournalEvent;
 use crate::note_line::Note;
+use circular_buffer::HeapCircularBuffer;
 use gw_model::Memory;
 use std::alloc::Global;
-use std::collections::VecDeque;
 
 /// How many notes may wait.
 pub const MOST: usize = 1024;
@@ -15,9 +15,8 @@ pub const MOST_OF_CONTROLS: usize = 4096;
 /// Notes that wait to be written. Where too many do the newest are left out and counted.
 #[derive(Drop)]
 pub struct WaitingNotes {
-    /// Room for `MOST` from the beginning, and for one that tells how many were left out; for more only where notes of
-    /// controls come to wait behind these.
-    notes: VecDeque<Note>,
+    /// Room for `MOST_OF_CONTROLS`, and for one that tells how many were left out.
+    notes: HeapCircularBuffer<Note>,
     others: LeftOut,
     of_controls: LeftOut,
     closed: bool,
@@ -64,7 +63,7 @@ pub enum Next {
 impl WaitingNotes {
     /// No note waits.
     pub fn new(alloc: Global) -> Result<WaitingNotes, Memory> {
-        let notes = VecDeque::with_capacity(alloc, MOST + 1)?;
+        let notes = HeapCircularBuffer::with_capacity(alloc, MOST_OF_CONTROLS + 1)?;
         Ok(WaitingNotes {
             notes,
             others: LeftOut::nothing(),
@@ -94,27 +93,20 @@ impl WaitingNotes {
 
     /// One more note of a control.
     fn add_of_control(&mut self, note: Note) {
-        let wall = note.wall;
         if self.notes.len() < MOST_OF_CONTROLS {
             let left_out = self.take_controls_left_out();
-            if self.push_behind(left_out, note) {
-                return;
-            }
+            self.push_behind(left_out, note);
+        } else {
+            self.of_controls.add(note.wall);
         }
-        self.of_controls.add(wall);
     }
 
-    /// Puts a note behind all others, and one before it, if there is one. Whether there was memory for the note.
-    fn push_behind(&mut self, left_out: Option<Note>, note: Note) -> bool {
+    /// Puts a note behind all others, and one before it, if there is one. There is room for both.
+    fn push_behind(&mut self, left_out: Option<Note>, note: Note) {
         if let Some(left_out) = left_out {
-            self.push(left_out);
+            self.notes.push_back(left_out);
         }
-        self.push(note)
-    }
-
-    /// Puts a note behind all others. Whether there was memory for it.
-    fn push(&mut self, note: Note) -> bool {
-        self.notes.push_back(note).is_ok()
+        self.notes.push_back(note);
     }
 
     /// No further note comes.
