@@ -27,27 +27,27 @@ pub struct Capture {
 
 impl Capture {
     /// A capture of all steps from the first on, in files of at most so many megabytes each.
-    pub fn new(alloc: Global, megabytes: u64) -> Capture {
-        Capture {
+    pub fn new(alloc: Global, megabytes: u64) -> Result<Capture, Memory> {
+        Ok(Capture {
             alloc,
             megabytes,
             is_on: AtomicBool::new(true),
-            waiting: Mutex::new(WaitingLines::new(alloc)),
+            waiting: Mutex::new(WaitingLines::new(alloc)?),
             bell: Bell::new(),
-        }
+        })
     }
 
     /// One that captures nothing.
-    pub fn off(alloc: Global) -> Capture {
-        let mut waiting = WaitingLines::new(alloc);
+    pub fn off(alloc: Global) -> Result<Capture, Memory> {
+        let mut waiting = WaitingLines::new(alloc)?;
         waiting.end(RecordEndCause::Closed);
-        Capture {
+        Ok(Capture {
             alloc,
             megabytes: 0,
             is_on: AtomicBool::new(false),
             waiting: Mutex::new(waiting),
             bell: Bell::new(),
-        }
+        })
     }
 
     /// Whether steps are captured still.
@@ -132,27 +132,25 @@ impl Capture {
         ended
     }
 
-    /// Batch after batch.
+    /// Lines after lines.
     fn write_all<R: Wait, W: Write + Drop>(&self, rt: &R, files: &mut Files<W>) -> RecordEnd {
-        let mut batch = Vec::new(self.alloc);
         for _ in rt.forever() {
-            if let Some(ended) = self.write_next(rt, files, &mut batch) {
+            if let Some(ended) = self.write_next(rt, files) {
                 return ended;
             }
         }
         unreachable!()
     }
 
-    /// Writes what waits, or waits for it; how the capture ended, if it did. The batch is empty before and behind it.
+    /// Writes the lines that have waited longest, or waits for some; how the capture ended, if it did.
     fn write_next<R: Wait, W: Write + Drop>(
         &self,
         rt: &R,
         files: &mut Files<W>,
-        batch: &mut Vec<Lines>,
     ) -> Option<RecordEnd> {
         let rung = self.bell.rung();
-        let done = match self.turn(rt, files, batch) {
-            Turn::Write => write_batch(files, batch),
+        let done = match self.turn(rt, files) {
+            Turn::Write(lines) => files.take(lines),
             Turn::Wait => {
                 let flushed = files.flush();
                 if flushed.is_ok() {
@@ -169,24 +167,8 @@ impl Capture {
     }
 
     /// What is to be done next.
-    fn turn<R: Wait, W: Write + Drop>(
-        &self,
-        rt: &R,
-        files: &mut Files<W>,
-        batch: &mut Vec<Lines>,
-    ) -> Turn {
+    fn turn<R: Wait, W: Write + Drop>(&self, rt: &R, files: &mut Files<W>) -> Turn {
         let added = files.take_added();
-        self.waiting.lock(rt).turn(added, batch)
+        self.waiting.lock(rt).turn(added)
     }
-}
-
-/// Writes the lines of a batch.
-fn write_batch<W: Write + Drop>(
-    files: &mut Files<W>,
-    batch: &mut Vec<Lines>,
-) -> Result<(), RecordEndCause> {
-    for lines in batch.drain(..) {
-        files.take(lines)?;
-    }
-    Ok(())
 }

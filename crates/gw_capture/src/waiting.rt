@@ -1,9 +1,10 @@
 //! What waits to be written.
 
 use crate::lines::Lines;
+use circular_buffer::HeapCircularBuffer;
+use gw_model::Memory;
 use gw_text::RecordEndCause;
 use std::alloc::Global;
-use std::mem;
 
 /// How many batches of lines may wait.
 const MOST_BATCHES: usize = 65_536;
@@ -56,10 +57,10 @@ impl Amount {
 }
 
 /// What the thread that writes is to do.
-#[derive(Clone, Copy)]
+#[derive(Drop)]
 pub enum Turn {
-    /// To write what it was given.
-    Write,
+    /// To write these.
+    Write(Lines),
     /// To wait.
     Wait,
     /// To end.
@@ -69,7 +70,8 @@ pub enum Turn {
 /// What was handed over and isn't written yet.
 #[derive(Drop)]
 pub struct WaitingLines {
-    lines: Vec<Lines>,
+    /// Room for `MOST_BATCHES`.
+    lines: HeapCircularBuffer<Lines>,
     /// How much isn't written yet, with what the thread that writes has taken.
     amount: Amount,
     /// Why nothing more is taken.
@@ -78,12 +80,13 @@ pub struct WaitingLines {
 
 impl WaitingLines {
     /// Nothing yet.
-    pub fn new(alloc: Global) -> WaitingLines {
-        WaitingLines {
-            lines: Vec::new(alloc),
+    pub fn new(alloc: Global) -> Result<WaitingLines, Memory> {
+        let lines = HeapCircularBuffer::with_capacity(alloc, MOST_BATCHES)?;
+        Ok(WaitingLines {
+            lines,
             amount: Amount::NONE,
             ended: None,
-        }
+        })
     }
 
     /// Takes lines; whether they, and more, can be taken.
@@ -96,10 +99,7 @@ impl WaitingLines {
             self.end(RecordEndCause::QueueFull);
             return false;
         }
-        if self.lines.push(lines).is_err() {
-            self.end(RecordEndCause::Memory);
-            return false;
-        }
+        self.lines.push_back(lines);
         self.amount = amount;
         true
     }
@@ -116,13 +116,11 @@ impl WaitingLines {
         self.lines.clear();
     }
 
-    /// What is to be done by the thread that has written so much since it asked last. What is to be written is put into
-    /// an empty batch.
-    pub fn turn(&mut self, written: Amount, batch: &mut Vec<Lines>) -> Turn {
+    /// What is to be done by the thread that has written so much since it asked last.
+    pub fn turn(&mut self, written: Amount) -> Turn {
         self.amount = self.amount.without(written);
-        if !self.lines.is_empty() {
-            mem::swap(&mut self.lines, batch);
-            return Turn::Write;
+        if let Some(lines) = self.lines.pop_front() {
+            return Turn::Write(lines);
         }
         match self.ended {
             Some(cause) => Turn::End(cause),

@@ -292,7 +292,7 @@ impl<'a, H: Host> Site<'a, H> {
         files: (File, File),
         megabytes: u64,
     ) -> Result<Closed, Memory> {
-        let capture = Capture::new(self.alloc, megabytes);
+        let capture = Capture::new(self.alloc, megabytes)?;
         let kept = &capture;
         let (_, closed) = thread::join(
             self.host,

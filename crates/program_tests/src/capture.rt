@@ -172,8 +172,8 @@ const RUN: Pumps<'_> = Pumps {
 };
 
 #[test]
-fn steps_are_written_in_order(rt: HostRuntime) {
-    let capture = Capture::new(rt.alloc(), 1);
+fn steps_are_written_in_order(rt: HostRuntime) -> Result<(), Fail> {
+    let capture = Capture::new(rt.alloc(), 1)?;
     for (number, moment, reply) in TICKS {
         put_tick(&rt, &capture, *number, *moment, *reply);
     }
@@ -181,6 +181,7 @@ fn steps_are_written_in_order(rt: HostRuntime) {
     capture.put_pumps(&rt, &RUN);
     capture.close(&rt);
     check_written(&rt, &capture, STEPS_IN_ORDER, ANSWERS_IN_ORDER);
+    Ok(())
 }
 
 /// A capture is written as these texts, up to step 10, which nobody handed over.
@@ -294,8 +295,8 @@ fn captures_end(rt: HostRuntime) -> Result<(), Fail> {
 }
 
 /// A capture ends as a case says, and nothing is kept for it then.
-fn check_case<R: Abort + Wait + AllocGlobal>(rt: &R, case: &Case) -> Result<(), AllocError> {
-    let capture = Capture::new(rt.alloc(), case.megabytes);
+fn check_case<R: Abort + Wait + AllocGlobal>(rt: &R, case: &Case) -> Result<(), Fail> {
+    let capture = Capture::new(rt.alloc(), case.megabytes)?;
     for number in 1..=case.count {
         let line = vec![in rt.alloc(); b'a'; case.length]?;
         capture.put_step(rt, Kept::Line(line), number, Ok(Reply::Done));
@@ -311,8 +312,8 @@ fn check_case<R: Abort + Wait + AllocGlobal>(rt: &R, case: &Case) -> Result<(), 
 }
 
 #[test]
-fn step_without_line(rt: HostRuntime) {
-    let capture = Capture::new(rt.alloc(), 1);
+fn step_without_line(rt: HostRuntime) -> Result<(), Fail> {
+    let capture = Capture::new(rt.alloc(), 1)?;
     put_tick(&rt, &capture, 1, 10, TICKED);
     let step = Step::Frame {
         client: 0,
@@ -332,6 +333,7 @@ fn step_without_line(rt: HostRuntime) {
         },
     );
     same_list(&rt, steps.as_slice(), b"tick 10\n".as_slice());
+    Ok(())
 }
 
 /// How a capture ends, and the lines of its steps.
@@ -394,7 +396,7 @@ fn put_ticks<R: Wait>(rt: &R, capture: &Capture, first: u64) {
 
 #[test]
 fn flushed_where_nothing_waits(rt: HostRuntime) -> Result<(), Fail> {
-    let capture = Capture::new(rt.alloc(), 1);
+    let capture = Capture::new(rt.alloc(), 1)?;
     put_ticks(&rt, &capture, 1);
     let mut steps = Feeding::new(&rt, rt.alloc(), Some(&capture));
     let mut answers = Feeding::new(&rt, rt.alloc(), None);
@@ -447,8 +449,8 @@ fn endings_are_told(rt: HostRuntime) -> Result<(), Fail> {
 }
 
 #[test]
-fn nothing_is_captured(rt: HostRuntime) {
-    let capture = Capture::off(rt.alloc());
+fn nothing_is_captured(rt: HostRuntime) -> Result<(), Fail> {
+    let capture = Capture::off(rt.alloc())?;
     put_tick(&rt, &capture, 1, 10, TICKED);
     capture.put_pumps(&rt, &RUN);
     let (ended, steps) = ended_of(&rt, &capture);
@@ -461,6 +463,7 @@ fn nothing_is_captured(rt: HostRuntime) {
         },
     );
     same(&rt, &steps.len(), &0);
+    Ok(())
 }
 
 /// How many ticks each of two workers hands over.
@@ -476,7 +479,7 @@ fn put_every_second<R: Wait>(rt: &R, capture: &Capture, first: u64) {
 
 #[test]
 fn workers_beside_the_writer(rt: HostRuntime) -> Result<(), Fail> {
-    let capture = Capture::new(rt.alloc(), 1);
+    let capture = Capture::new(rt.alloc(), 1)?;
     let mut wanted = Vec::new(rt.alloc());
     for number in 1..=2 * TICKS_OF_ONE {
         writeln!(wanted, "tick {number}")?;
