@@ -1,14 +1,14 @@
 //! Orders on their way to one outstation.
-ghost use Rattle.std.specs.Prelude.{◌≡◌, ◌≤◌, false, is_some, length, IfOk};
+ghost use Rattle.std.specs.Prelude.{◌≡◌, ◌≤◌, false, is_some, length, [], IfOk};
 ghost use Rattle.std.specs.List.{filter, list_any};
-ghost use Rattle.std.specs.VecDeque.{deque_capacity};
+ghost use Rattle.circular_buffer.specs.Buffer.{buffer};
 ghost use Rattle.gw_control.specs.Orders.{has_number, is_full, is_numbered, is_of_others, nothing_outgoing, order_given, outcome_at, outcome_lost, outgoing_after_end, outgoing_after_ended, outgoing_after_lost, outgoing_after_taking, outgoing_with};
 
 use crate::accepted::{Accepted, UnderWay};
 use crate::answer::Outcome;
+use circular_buffer::HeapCircularBuffer;
 use gw_model::{Ended, Memory, Order};
 use std::alloc::Global;
-use std::collections::VecDeque;
 use std::marker::Model;
 
 /// How many orders may wait for an outstation.
@@ -18,13 +18,12 @@ pub const MOST_WAITING: usize = 16;
 #[derive(Drop)]
 pub struct Outgoing {
     /// Oldest first.
-    waiting: VecDeque<Accepted>,
+    waiting: HeapCircularBuffer<Accepted>,
     under_way: Option<UnderWay>,
 }
 
 impl Model for Outgoing {
-    ghost use Rattle.std.specs.Prelude.{◌≤◌, length};
-    ghost use Rattle.std.specs.VecDeque.{deque_capacity};
+    ghost use Rattle.std.specs.Prelude.{◌≡◌, ◌≤◌, length};
     ghost use Rattle.gw_control.specs.Orders.{Outgoing as Seen};
 
     ghost Value = { Seen };
@@ -32,7 +31,7 @@ impl Model for Outgoing {
     ghost view = { λ o. record { waiting = o.waiting.items; under_way = o.under_way } };
 
     // There is room for as many as may wait.
-    ghost invariant = { λ o. (length o.waiting.items ≤ 16) × (16 ≤ deque_capacity o.waiting) };
+    ghost invariant = { λ o. (length o.waiting.items ≤ 16) × (o.waiting.capacity ≡ 16) };
 }
 
 impl Outgoing {
@@ -40,7 +39,7 @@ impl Outgoing {
     pub fn new(alloc: Global) -> Result<Outgoing, Memory>
         ensures { IfOk result (λ outgoing. outgoing ≡ nothing_outgoing) }
     {
-        let waiting = VecDeque::with_capacity(alloc, MOST_WAITING)?;
+        let waiting = HeapCircularBuffer::with_capacity(alloc, MOST_WAITING)?;
         Ok(Outgoing {
             waiting,
             under_way: None,
@@ -51,27 +50,35 @@ impl Outgoing {
     pub fn copy(&self) -> Result<Outgoing, Memory>
         ensures { IfOk result (λ copy. copy ≡ self.now) }
     {
-        let none = VecDeque::new(*self.waiting.allocator());
-        let waiting = refilled(none, &self.waiting)?;
-        Ok(Outgoing {
-            waiting,
-            under_way: self.under_way,
-        })
+        let room = HeapCircularBuffer::with_capacity(*self.waiting.allocator(), MOST_WAITING)?;
+        Ok(self.copy_into(room))
     }
 
-    /// The same, in the memory of orders that aren't needed any more, so that none is asked for where that suffices.
+    /// The same, in the memory of orders that aren't needed any more, so that none is asked for.
     pub fn copy_over(&self, spare: Outgoing) -> Result<Outgoing, Memory>
         ensures { IfOk result (λ copy. copy ≡ self.now) }
     {
-        let waiting = refilled(spare.waiting, &self.waiting)?;
-        Ok(Outgoing {
+        let mut room = spare.waiting;
+        room.clear();
+        Ok(self.copy_into(room))
+    }
+
+    fn copy_into(&self, room: HeapCircularBuffer<Accepted>) -> Outgoing
+        requires { room ≡ buffer [] 16 }
+        ensures { result ≡ self.now }
+    {
+        let mut waiting = room;
+        let (front, back) = self.waiting.as_slices();
+        waiting.extend_from_slice(front);
+        waiting.extend_from_slice(back);
+        Outgoing {
             waiting,
             under_way: self.under_way,
-        })
+        }
     }
 
     /// The orders that wait, oldest first.
-    pub fn waiting(&self) -> &VecDeque<Accepted>
+    pub fn waiting(&self) -> &HeapCircularBuffer<Accepted>
         ensures { result.now.items ≡ self.now.waiting }
     {
         &self.waiting
@@ -98,7 +105,7 @@ impl Outgoing {
     pub fn is_full(&self) -> bool
         ensures { result ≡ is_full self.now }
     {
-        self.waiting.len() >= MOST_WAITING
+        self.waiting.is_full()
     }
 
     /// One more waits.
@@ -106,7 +113,7 @@ impl Outgoing {
         requires { is_full self.old ≡ false }
         ensures { self.new ≡ outgoing_with accepted self.old }
     {
-        self.waiting.push_back_reserved(accepted);
+        self.waiting.push_back(accepted);
     }
 
     /// Whether `take` would give an order.
@@ -171,25 +178,8 @@ impl Outgoing {
     }
 }
 
-/// The same orders, with room for as many as may wait, in the memory of spare ones where that suffices.
-fn refilled(
-    mut spare: VecDeque<Accepted>,
-    orders: &VecDeque<Accepted>,
-) -> Result<VecDeque<Accepted>, Memory>
-    ensures items { IfOk result (λ copy. copy.items ≡ orders.now.items) }
-    ensures room { IfOk result (λ copy. 16 ≤ deque_capacity copy) }
-{
-    spare.clear();
-    let mut copy = spare.into_vec();
-    copy.reserve(MOST_WAITING)?;
-    let (front, back) = orders.as_slices();
-    copy.extend_from_slice(front)?;
-    copy.extend_from_slice(back)?;
-    Ok(VecDeque::from_vec(copy))
-}
-
 /// Whether an order is among these.
-fn is_waiting(waiting: &VecDeque<Accepted>, number: u64) -> bool
+fn is_waiting(waiting: &HeapCircularBuffer<Accepted>, number: u64) -> bool
     ensures { result ≡ list_any (is_numbered number) waiting.now.items }
 {
     waiting
@@ -198,10 +188,16 @@ fn is_waiting(waiting: &VecDeque<Accepted>, number: u64) -> bool
 }
 
 /// Those of other clients stay.
-fn keep_others(waiting: &mut VecDeque<Accepted>, client: u8)
+fn keep_others(waiting: &mut HeapCircularBuffer<Accepted>, client: u8)
     ensures items { waiting.new.items ≡ filter (is_of_others client) waiting.old.items }
     ensures fewer { length waiting.new.items ≤ length waiting.old.items }
-    ensures capacity { deque_capacity waiting.new ≡ deque_capacity waiting.old }
+    ensures capacity { waiting.new.capacity ≡ waiting.old.capacity }
 {
-    waiting.retain(|accepted| accepted.client != client);
+    for _ in 0..waiting.len() {
+        if let Some(accepted) = waiting.pop_front() {
+            if accepted.client != client {
+                waiting.push_back(accepted);
+            }
+        }
+    }
 }
