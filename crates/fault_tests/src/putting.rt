@@ -48,11 +48,7 @@ pub fn hub_after<R: Abort + AllocGlobal>(rt: &R) -> Hub {
 /// A writer with room for so many octets takes the front of the run, and all of it where it has room.
 fn check_put<R: Abort + AllocGlobal>(rt: &R, hub: &Hub, room: usize) {
     let has_ended = AtomicBool::new(false);
-    let mut writer = Client {
-        octets: Vec::new(rt.alloc()),
-        room,
-        has_ended: &has_ended,
-    };
+    let mut writer = Client::new(rt.alloc(), room, &has_ended);
     let ended = put(hub.copy().expect(rt, "a copy"), &mut writer);
     let front = RUN.get(..room).expect(rt, "that much");
     same_list(rt, writer.octets.as_slice(), front);

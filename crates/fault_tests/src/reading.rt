@@ -13,6 +13,7 @@ use test_tools::{Arrival, Hub, Incoming, OpenGate, Sent, Source, TestCore, Worke
 pub struct Input<'a> {
     sent: Sent<'a>,
     reads: u8,
+    has_failed: bool,
 }
 
 impl<'a> Input<'a> {
@@ -20,6 +21,7 @@ impl<'a> Input<'a> {
         Input {
             sent: Sent { rest: octets },
             reads,
+            has_failed: false,
         }
     }
 
@@ -30,10 +32,11 @@ impl<'a> Input<'a> {
 }
 
 impl<'a> Incoming for Input<'a> {
-    ghost can_fail = { λ _. Unit {0} };
+    ghost has_failed = { λ input. input.has_failed };
 
     fn receive(&mut self, buffer: &mut [u8]) -> Arrival {
         if self.reads == 0 {
+            self.has_failed = true;
             return Arrival::Fault;
         }
         self.reads -= 1;

@@ -26,11 +26,7 @@ fn write<L: Ledger, R: Wait + Abort + AllocGlobal>(rt: &R, blank: Blank, hub: Hu
 {
     let mut core = TestCore::<L>::new(rt.alloc(), blank, hub, 1, 16).expect(rt, "a core");
     let has_ended = AtomicBool::new(false);
-    let mut writer = Client {
-        octets: Vec::new(rt.alloc()),
-        room,
-        has_ended: &has_ended,
-    };
+    let mut writer = Client::new(rt.alloc(), room, &has_ended);
     assert!(rt; core.stands(rt, 0));
     let end = core
         .write_client(rt, &mut writer, &OpenGate)

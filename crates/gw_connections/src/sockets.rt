@@ -21,6 +21,8 @@ const LOOK_MS: u64 = 250;
 pub struct ClientSocket<'a> {
     stream: &'a TcpStream,
     ending: &'a Ending,
+    /// Whether a read or a write of this value has failed.
+    has_failed: bool,
 }
 
 /// A connection to an outstation. A read or a write that takes too long fails. That nothing more comes is noted
@@ -29,6 +31,8 @@ pub struct ClientSocket<'a> {
 pub struct OutstationSocket<'a> {
     stream: &'a TcpStream,
     ending: &'a Ending,
+    /// Whether a read or a write of this value has failed.
+    has_failed: bool,
 }
 
 impl<'a> ClientSocket<'a> {
@@ -36,7 +40,11 @@ impl<'a> ClientSocket<'a> {
     pub fn new(stream: &'a TcpStream, ending: &'a Ending) -> ClientSocket<'a> {
         let _ = stream.set_nodelay(true);
         let _ = stream.set_read_timeout(Some(Duration::from_millis(LOOK_MS)));
-        ClientSocket { stream, ending }
+        ClientSocket {
+            stream,
+            ending,
+            has_failed: false,
+        }
     }
 }
 
@@ -47,7 +55,11 @@ impl<'a> OutstationSocket<'a> {
         let _ = stream.set_nodelay(true);
         let _ = stream.set_read_timeout(Some(plan.silence));
         let _ = stream.set_write_timeout(Some(plan.response));
-        OutstationSocket { stream, ending }
+        OutstationSocket {
+            stream,
+            ending,
+            has_failed: false,
+        }
     }
 }
 
@@ -88,22 +100,26 @@ fn is_timeout(error: &io::Error) -> bool {
 }
 
 impl<'a> Incoming for ClientSocket<'a> {
-    ghost can_fail = { λ _. Unit {0} };
+    ghost has_failed = { λ socket. socket.has_failed };
 
     fn receive(&mut self, buffer: &mut [u8]) -> Arrival {
-        match read(self.stream, buffer) {
+        let arrival = match read(self.stream, buffer) {
             Err(error) if is_timeout(&error) => Arrival::Later,
             other => arrival(other, buffer.len(), self.ending),
-        }
+        };
+        self.has_failed = self.has_failed || arrival.is_fault();
+        arrival
     }
 }
 
 impl<'a> Incoming for OutstationSocket<'a> {
-    ghost can_fail = { λ _. Unit {0} };
+    ghost has_failed = { λ socket. socket.has_failed };
 
     fn receive(&mut self, buffer: &mut [u8]) -> Arrival {
         let read = read(self.stream, buffer);
-        arrival(read, buffer.len(), self.ending)
+        let arrival = arrival(read, buffer.len(), self.ending);
+        self.has_failed = self.has_failed || arrival.is_fault();
+        arrival
     }
 }
 
@@ -121,19 +137,23 @@ fn write(mut stream: &TcpStream, octets: &[u8], ending: &Ending) -> Result<(), U
 impl<'a> Outgoing for ClientSocket<'a> {
     ghost contents = { λ _. None };
 
-    ghost can_fail = { λ _. Unit {0} };
+    ghost has_failed = { λ socket. socket.has_failed };
 
     fn hand(&mut self, octets: &[u8]) -> Result<(), Unwritten> {
-        write(self.stream, octets, self.ending)
+        let written = write(self.stream, octets, self.ending);
+        self.has_failed = self.has_failed || written.is_err();
+        written
     }
 }
 
 impl<'a> Outgoing for OutstationSocket<'a> {
     ghost contents = { λ _. None };
 
-    ghost can_fail = { λ _. Unit {0} };
+    ghost has_failed = { λ socket. socket.has_failed };
 
     fn hand(&mut self, octets: &[u8]) -> Result<(), Unwritten> {
-        write(self.stream, octets, self.ending)
+        let written = write(self.stream, octets, self.ending);
+        self.has_failed = self.has_failed || written.is_err();
+        written
     }
 }

@@ -1,3 +1,4 @@
+pub mod Failed
 pub mod Framing
 pub mod Joined
 pub mod Runs

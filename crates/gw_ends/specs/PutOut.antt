@@ -1,5 +1,5 @@
 -- One run of APDUs that a source of replies gives, and what of it a writer took.
-use Rattle.std.specs.Prelude.{◌≡◌, ◌⊎◌, ℕ, Bool, false, List, [], ◌∷◌, ◌++◌, take, Option, Some, None, Result, Ok, Err}
+use Rattle.std.specs.Prelude.{◌≡◌, ◌⊎◌, ℕ, Bool, true, false, List, [], ◌∷◌, ◌++◌, take, Option, Some, None, Result, Ok, Err}
 use Rattle.std.specs.Io.KnownBytes.{Appends}
 use Rattle.iec_apci.specs.declared.buffer.ApduBuf.{ApduBuf}
 use Rattle.gw_steps.specs.declared.step.Reply.{Reply}
@@ -7,7 +7,6 @@ use Rattle.gw_steps.specs.declared.step.Reply.TheVariants.{Apdu}
 use Rattle.gw_steps.specs.declared.step.StepFault.{StepFault}
 pub use Rattle.gw_ends.specs.Octets.{joined, octets_in}
 use Rattle.gw_ends.specs.Octets.{is_apdu as is_apdu_reply}
-use Rattle.gw_ends.specs.Ends.{CanFail}
 use Rattle.gw_ends.specs.declared.putting.Gathered.{Gathered}
 use Rattle.gw_ends.specs.declared.putting.Gathered.TheVariants as gathering
 use Rattle.gw_ends.specs.declared.putting.Put.{Put}
@@ -78,11 +77,10 @@ writing_end (Ended (Some (Err fault))) = Some ends.Stopping
 writing_end Unwritten = Some ends.WriteFault
 writing_end More = None
 
--- a run ends by a failed write only where the writer can fail
-abbrev pub MayBePut : {W : Type 0} → (W → Type 0) → Put → Type 0
-MayBePut writer_fails (Ended last) = Unit {0}
-MayBePut writer_fails Unwritten = CanFail writer_fails
-MayBePut writer_fails More = Unit {0}
+-- a failed write ended the run
+abbrev pub is_unwritten : Option Put → Bool
+is_unwritten (Some Unwritten) = true
+is_unwritten _ = false
 
 -- where nothing ended the run, the APDUs that were given were taken
 abbrev pub IsPutNext : {S : Type 0} → (S → Given → S → Type 0) → S → S → Option (List ℕ) → Option (List ℕ)

@@ -1,8 +1,7 @@
 //! The two ends of a connection to a peer, as workers see them.
-ghost use Rattle.std.specs.Prelude.{◌≡◌, ◌≤◌, ℕ, List, Option, length, take, OnErr, OnOk};
+ghost use Rattle.std.specs.Prelude.{◌≡◌, ◌≤◌, ◌||◌, ℕ, Bool, List, Option, is_err, length, take, OnErr, OnOk};
 ghost use Rattle.std.specs.Io.KnownBytes.{Appends};
-ghost use Rattle.gw_ends.specs.declared.ends.Arrival.TheVariants as arrivals;
-ghost use Rattle.gw_ends.specs.Ends.{IsWithin, reading_end};
+ghost use Rattle.gw_ends.specs.Ends.{is_fault, reading_end, IsWithin};
 
 use crate::worker_end::WorkerEnd;
 
@@ -20,6 +19,13 @@ pub enum Arrival {
 }
 
 impl Arrival {
+    /// Whether reading failed.
+    pub fn is_fault(&self) -> bool
+        ensures { result ≡ is_fault self.now }
+    {
+        matches!(self, Arrival::Fault)
+    }
+
     /// How a reader ends by it, if it does.
     pub fn end(&self) -> Option<WorkerEnd>
         ensures { result ≡ reading_end self.now }
@@ -34,13 +40,14 @@ impl Arrival {
 
 /// Where octets come from.
 pub trait Incoming {
-    /// Whether reading may fail from here on.
-    ghost can_fail: { Self → Type 0 };
+    /// Whether a read has failed.
+    ghost has_failed: { Self → Bool };
 
     /// Waits for octets of the peer. An interrupted wait goes on.
     fn receive(&mut self, buffer: &mut [u8]) -> Arrival
         ensures within { IsWithin result (length buffer.new) }
-        ensures fault { result ≡ arrivals.Fault → can_fail self.old };
+        // This read, or one before.
+        ensures failed { has_failed self.new ≡ (is_fault result || has_failed self.old) };
 }
 
 /// The octets weren't all taken, or none was and none will be.
@@ -52,12 +59,13 @@ pub trait Outgoing {
     /// The octets that it took so far, where they are known.
     ghost contents: { Self → Option (List ℕ) };
 
-    /// Whether writing may fail from here on.
-    ghost can_fail: { Self → Type 0 };
+    /// Whether a write has failed.
+    ghost has_failed: { Self → Bool };
 
     /// Hands octets over, all of them at `Ok`, the front of them at `Err`. An interrupted write goes on.
     fn hand(&mut self, octets: &[u8]) -> Result<(), Unwritten>
         ensures ok { OnOk result (Appends (contents self.old) (contents self.new) octets.now) }
         ensures front { OnErr result ((n : ℕ) × Appends (contents self.old) (contents self.new) (take n octets.now)) }
-        ensures err { OnErr result (can_fail self.old) };
+        // This write, or one before.
+        ensures failed { has_failed self.new ≡ (is_err result || has_failed self.old) };
 }

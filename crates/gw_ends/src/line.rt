@@ -37,7 +37,7 @@ impl<W: Outgoing> Line<W> {
 
     /// Sends a reply of the link.
     pub fn reply<R: Wait>(&self, rt: &R, frame: &[u8; 10]) -> Result<(), Unwritten>
-        ensures { OnErr result (CanFail W.can_fail) }
+        ensures { OnErr result (CanFail W.has_failed) }
     {
         self.held.lock(rt).wire.answer(frame)
     }
@@ -55,14 +55,14 @@ impl<W: Outgoing> Line<W> {
 
     /// Sends a confirmation.
     pub fn confirm<R: Wait>(&self, rt: &R, octets: &[u8; 2]) -> Result<(), Unwritten>
-        ensures { OnErr result (CanFail W.can_fail) }
+        ensures { OnErr result (CanFail W.has_failed) }
     {
         self.held.lock(rt).wire.send(octets)
     }
 
     /// Sends a request, once no confirmation is owed.
     pub fn request<R: Wait>(&self, rt: &R, request: &Request) -> Result<(), Unwritten>
-        ensures { OnErr result (CanFail W.can_fail) }
+        ensures { OnErr result (CanFail W.has_failed) }
     {
         let mut held = self
             .settled

@@ -1,10 +1,9 @@
 //! Handing over what a source of replies gives.
-ghost use Rattle.std.specs.Prelude.{◌≡◌, ℕ, IfSome, OnErr, OnOk, Option, Result, take};
+ghost use Rattle.std.specs.Prelude.{◌≡◌, ◌||◌, ℕ, OnErr, OnOk, Option, Result, Some, is_err, take};
 ghost use Rattle.std.specs.Io.KnownBytes.{Appends};
 ghost use Rattle.gw_steps.specs.declared.step.Reply.{Reply as ReplySeen};
 ghost use Rattle.gw_steps.specs.declared.step.StepFault.{StepFault as FaultSeen};
-ghost use Rattle.gw_ends.specs.Ends.{CanFail};
-ghost use Rattle.gw_ends.specs.PutOut.{writing_end, IsGathered, IsPut, IsPutNext, MayBePut};
+ghost use Rattle.gw_ends.specs.PutOut.{is_unwritten, writing_end, IsGathered, IsPut, IsPutNext};
 
 use crate::batch::Batch;
 use crate::ends::{Outgoing, Unwritten};
@@ -63,7 +62,7 @@ impl Put {
 /// none.
 pub fn put_out<S: Source, W: Outgoing>(source: &mut S, writer: &mut W, batch: &mut Batch) -> Put
     ensures put { IsPut S.Gives source.old source.new (W.contents writer.old) (W.contents writer.new) result }
-    ensures fault { MayBePut W.can_fail result }
+    ensures failed { W.has_failed writer.new ≡ (is_unwritten (Some result) || W.has_failed writer.old) }
 {
     'batches: for _ in 0..u32::MAX {
         if let Some(put) = put_next(source, writer, batch) {
@@ -80,7 +79,7 @@ fn put_next<S: Source, W: Outgoing>(
     batch: &mut Batch,
 ) -> Option<Put>
     ensures put { IsPutNext S.Gives source.old source.new (W.contents writer.old) (W.contents writer.new) result }
-    ensures fault { IfSome result (MayBePut W.can_fail) }
+    ensures failed { W.has_failed writer.new ≡ (is_unwritten result || W.has_failed writer.old) }
 {
     batch.clear();
     let gathered = source.gather(batch);
@@ -101,7 +100,7 @@ fn hand_over<S: Source, W: Outgoing>(
 ) -> Result<(), Unwritten>
     ensures ok { OnOk result (Appends (W.contents writer.old) (W.contents writer.new) octets.now) }
     ensures front { OnErr result ((n : ℕ) × Appends (W.contents writer.old) (W.contents writer.new) (take n octets.now)) }
-    ensures fault { OnErr result (CanFail W.can_fail) }
+    ensures failed { W.has_failed writer.new ≡ (is_err result || W.has_failed writer.old) }
 {
     if octets.is_empty() {
         return Ok(());

@@ -1,8 +1,7 @@
 //! Fragments on the link to an outstation.
-ghost use Rattle.std.specs.Prelude.{◌≡◌, ◌≤◌, ◌<◌, ◌+◌, ◌%◌, length, take, ℕ, OnErr, OnOk};
+ghost use Rattle.std.specs.Prelude.{◌≡◌, ◌≤◌, ◌<◌, ◌+◌, ◌%◌, ◌||◌, is_err, length, take, ℕ, OnOk};
 ghost use Rattle.std.specs.Io.KnownBytes.{Appends};
 ghost use Rattle.dnp_transport.specs.Cut.{segments_of};
-ghost use Rattle.gw_ends.specs.Ends.{CanFail};
 ghost use Rattle.gw_ends.specs.Framed.{framed};
 
 use crate::ends::{Outgoing, Unwritten};
@@ -43,7 +42,7 @@ impl<W: Outgoing> Wire<W> {
         requires { length fragment.now ≤ 2048 }
         ensures ok { OnOk result (Appends (W.contents self.old.writer) (W.contents self.new.writer)
             (framed self.old.own self.old.peer (segments_of fragment.now (self.old.sequence % 64)))) }
-        ensures err { OnErr result (CanFail W.can_fail) }
+        ensures failed { W.has_failed self.new.writer ≡ (is_err result || W.has_failed self.old.writer) }
         ensures addresses { (self.new.own ≡ self.old.own) × (self.new.peer ≡ self.old.peer) }
         // The next sequence number is behind those of the segments.
         ensures sequence { OnOk result (self.new.sequence % 64
@@ -61,7 +60,7 @@ impl<W: Outgoing> Wire<W> {
     /// Sends a frame of the link as it is.
     pub fn answer(&mut self, frame: &[u8]) -> Result<(), Unwritten>
         ensures ok { OnOk result (Appends (W.contents self.old.writer) (W.contents self.new.writer) frame.now) }
-        ensures err { OnErr result (CanFail W.can_fail) }
+        ensures failed { W.has_failed self.new.writer ≡ (is_err result || W.has_failed self.old.writer) }
         ensures addresses { (self.new.own ≡ self.old.own) × (self.new.peer ≡ self.old.peer) }
         ensures sequence { self.new.sequence ≡ self.old.sequence }
     {

@@ -1,6 +1,6 @@
 //! The reader of a client.
-ghost use Rattle.std.specs.Prelude.{◌≡◌, IfSome};
-ghost use Rattle.gw_ends.specs.Ends.{IsOfSteps, MayEnd};
+ghost use Rattle.std.specs.Prelude.{◌≡◌, ◌||◌, IfSome, Some};
+ghost use Rattle.gw_ends.specs.Ends.{is_read_fault, IsOfSteps, MayEnd};
 
 use gw_ends::{Arrival, Incoming, WorkerEnd};
 use gw_threads::{Calls, Clock, Gate, Pass, Place, Reply, Step, StepFault, lose_client, make_call};
@@ -37,7 +37,9 @@ pub fn client_reader<'a, L: Ledger, S: Calls<L>, R: Wait, I: Incoming, C: Clock,
     gate: &'a G,
 ) -> (Pass<L>, WorkerEnd)
     ensures own { result.0.actor ≡ pass.actor }
-    ensures end { MayEnd I.can_fail result.1 }
+    ensures end { MayEnd result.1 }
+    // It ended by a failed read exactly where one failed, unless one had before.
+    ensures failed { I.has_failed input.new ≡ (is_read_fault (Some result.1) || I.has_failed input.old) }
 {
     let mut reading = Reading {
         rt,
@@ -58,7 +60,8 @@ impl<'a, L: Ledger, S: Calls<L>, R: Wait, C: Clock, G: Gate> Reading<'a, L, S, R
     /// Piece after piece, until the worker is to end.
     fn read_on<I: Incoming>(&mut self, feed: &mut ApduFeed, input: &mut I) -> WorkerEnd
         ensures own { self.new.pass.actor ≡ self.old.pass.actor }
-        ensures end { MayEnd I.can_fail result }
+        ensures end { MayEnd result }
+        ensures failed { I.has_failed input.new ≡ (is_read_fault (Some result) || I.has_failed input.old) }
     {
         let mut buffer = [0; PIECE];
         'pieces: for _ in self.rt.forever() {
@@ -70,6 +73,7 @@ impl<'a, L: Ledger, S: Calls<L>, R: Wait, C: Clock, G: Gate> Reading<'a, L, S, R
     }
 
     /// One piece. How the worker ends, if it does.
+    #[tactic(auto, using(gw_ends::proofs::Failed::reading_fails, gw_ends::proofs::Failed::steps_read))]
     fn read<I: Incoming>(
         &mut self,
         feed: &mut ApduFeed,
@@ -77,7 +81,8 @@ impl<'a, L: Ledger, S: Calls<L>, R: Wait, C: Clock, G: Gate> Reading<'a, L, S, R
         buffer: &mut [u8],
     ) -> Option<WorkerEnd>
         ensures own { self.new.pass.actor ≡ self.old.pass.actor }
-        ensures end { IfSome result (MayEnd I.can_fail) }
+        ensures end { IfSome result MayEnd }
+        ensures failed { I.has_failed input.new ≡ (is_read_fault result || I.has_failed input.old) }
     {
         let arrival = input.receive(buffer);
         match arrival {

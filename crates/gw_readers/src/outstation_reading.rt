@@ -1,6 +1,6 @@
 //! The reader of an outstation.
-ghost use Rattle.std.specs.Prelude.{◌≡◌, ◌≤◌, length, IfSome};
-ghost use Rattle.gw_ends.specs.Ends.{IsOfFrames, MayEndBetween};
+ghost use Rattle.std.specs.Prelude.{◌≡◌, ◌≤◌, ◌||◌, length, IfSome, Some};
+ghost use Rattle.gw_ends.specs.Ends.{is_read_fault, IsOfFrames, MayEndBetween};
 
 use dnp_app::{AppFault, Response, read_response};
 use dnp_link::{Frame, LinkEvent, LinkFeed};
@@ -80,7 +80,9 @@ pub fn outstation_reader<
     patience: Patience,
 ) -> (Pass<L>, WorkerEnd)
     ensures own { result.0.actor ≡ pass.actor }
-    ensures end { MayEndBetween I.can_fail W.can_fail result.1 }
+    ensures end { MayEndBetween W.has_failed result.1 }
+    // It ended by a failed read exactly where one failed, unless one had before.
+    ensures failed { I.has_failed input.new ≡ (is_read_fault (Some result.1) || I.has_failed input.old) }
 {
     let mut reading = Reading {
         alloc,
@@ -121,7 +123,8 @@ impl<'a, 'b, L: Ledger, S: Calls<L>, R: Wait, W: Outgoing, C: Clock, G: Gate> Re
         input: &mut I,
     ) -> WorkerEnd
         ensures own { self.new.pass.actor ≡ self.old.pass.actor }
-        ensures end { MayEndBetween I.can_fail W.can_fail result }
+        ensures end { MayEndBetween W.has_failed result }
+        ensures failed { I.has_failed input.new ≡ (is_read_fault (Some result) || I.has_failed input.old) }
     {
         let mut buffer = [0; PIECE];
         'pieces: for _ in self.rt.forever() {
@@ -133,6 +136,7 @@ impl<'a, 'b, L: Ledger, S: Calls<L>, R: Wait, W: Outgoing, C: Clock, G: Gate> Re
     }
 
     /// One piece. How the worker ends, if it does.
+    #[tactic(auto, using(gw_ends::proofs::Failed::reading_fails, gw_ends::proofs::Failed::frames_read))]
     fn read<I: Incoming>(
         &mut self,
         feed: &mut LinkFeed,
@@ -141,7 +145,8 @@ impl<'a, 'b, L: Ledger, S: Calls<L>, R: Wait, W: Outgoing, C: Clock, G: Gate> Re
         buffer: &mut [u8],
     ) -> Option<WorkerEnd>
         ensures own { self.new.pass.actor ≡ self.old.pass.actor }
-        ensures end { IfSome result (MayEndBetween I.can_fail W.can_fail) }
+        ensures end { IfSome result (MayEndBetween W.has_failed) }
+        ensures failed { I.has_failed input.new ≡ (is_read_fault result || I.has_failed input.old) }
     {
         let arrival = input.receive(buffer);
         match arrival {
@@ -174,7 +179,7 @@ impl<'a, 'b, L: Ledger, S: Calls<L>, R: Wait, W: Outgoing, C: Clock, G: Gate> Re
         piece: &[u8],
     ) -> Option<WorkerEnd>
         ensures own { self.new.pass.actor ≡ self.old.pass.actor }
-        ensures end { IfSome result (IsOfFrames W.can_fail) }
+        ensures end { IfSome result (IsOfFrames W.has_failed) }
     {
         if feed.feed(piece).is_err() {
             return Some(WorkerEnd::Memory);
@@ -200,7 +205,7 @@ impl<'a, 'b, L: Ledger, S: Calls<L>, R: Wait, W: Outgoing, C: Clock, G: Gate> Re
     /// ends, if it does.
     fn take_frame(&mut self, receiver: &mut Receiver, frame: &Frame) -> Option<WorkerEnd>
         ensures own { self.new.pass.actor ≡ self.old.pass.actor }
-        ensures end { IfSome result (IsOfFrames W.can_fail) }
+        ensures end { IfSome result (IsOfFrames W.has_failed) }
     {
         let Ok(received) = receiver.take(frame) else {
             return Some(WorkerEnd::Memory);
@@ -218,7 +223,7 @@ impl<'a, 'b, L: Ledger, S: Calls<L>, R: Wait, W: Outgoing, C: Clock, G: Gate> Re
     fn take_fragment(&mut self, octets: Vec<u8>) -> Option<WorkerEnd>
         requires { length octets.items ≤ 2048 }
         ensures own { self.new.pass.actor ≡ self.old.pass.actor }
-        ensures end { IfSome result (IsOfFrames W.can_fail) }
+        ensures end { IfSome result (IsOfFrames W.has_failed) }
     {
         let count = octets.len();
         self.recent[..count].copy_from_slice(octets.as_slice());
@@ -247,7 +252,7 @@ impl<'a, 'b, L: Ledger, S: Calls<L>, R: Wait, W: Outgoing, C: Clock, G: Gate> Re
     /// Makes the step of a response, and sends its confirmation where one is owed. How the worker ends, if it does.
     fn step(&mut self, response: Response) -> Option<WorkerEnd>
         ensures own { self.new.pass.actor ≡ self.old.pass.actor }
-        ensures end { IfSome result (IsOfFrames W.can_fail) }
+        ensures end { IfSome result (IsOfFrames W.has_failed) }
     {
         let actor = self.pass.actor();
         let asks = response.control().con;
@@ -291,7 +296,7 @@ impl<'a, 'b, L: Ledger, S: Calls<L>, R: Wait, W: Outgoing, C: Clock, G: Gate> Re
 
     /// Sends the confirmation that a reply of the core owes, if it owes one. How the worker ends, if it does.
     fn confirm(&self, reply: &Result<Reply, StepFault>) -> Option<WorkerEnd>
-        ensures { IfSome result (IsOfFrames W.can_fail) }
+        ensures { IfSome result (IsOfFrames W.has_failed) }
     {
         let octets = match reply {
             Ok(Reply::Verdict(Verdict::Accepted { confirm, .. } | Verdict::Repeated { confirm })) =>

@@ -1,7 +1,7 @@
 //! The writer of a client.
-ghost use Rattle.std.specs.Prelude.{◌≡◌, IfSome};
-ghost use Rattle.gw_ends.specs.Ends.{MayEndWriting};
-ghost use Rattle.gw_ends.specs.PutOut.{MayBePut};
+ghost use Rattle.std.specs.Prelude.{◌≡◌, ◌||◌, IfSome, Some};
+ghost use Rattle.gw_ends.specs.Ends.{is_write_fault, MayEndWriting};
+ghost use Rattle.gw_ends.specs.PutOut.{is_unwritten};
 ghost use Rattle.gw_threads.specs.Written.{Writes, WritesIfEnded, WritesPut};
 
 use crate::gate::Gate;
@@ -25,7 +25,9 @@ pub fn client_writer<'a, L: Ledger, S: Calls<L>, R: Wait, W: Outgoing, C: Clock,
 ) -> (Pass<L>, WorkerEnd)
     ensures own { result.0.actor ≡ pass.actor }
     ensures written { Writes client (W.contents writer.old) (W.contents writer.new) result.1 }
-    ensures end { MayEndWriting W.can_fail result.1 }
+    ensures end { MayEndWriting result.1 }
+    // It ended by a failed write exactly where one failed, unless one had before.
+    ensures failed { W.has_failed writer.new ≡ (is_write_fault (Some result.1) || W.has_failed writer.old) }
 {
     let mut source = SharedSource::new(rt, shared, pass, client, clock, gate);
     let mut batch = Batch::new();
@@ -41,7 +43,8 @@ fn write_on<L: Ledger, S: Calls<L>, R: Wait, W: Outgoing, C: Clock, G: Gate>(
 ) -> WorkerEnd
     ensures same { source.new ≡ source.old }
     ensures written { Writes source.old.client (W.contents writer.old) (W.contents writer.new) result }
-    ensures end { MayEndWriting W.can_fail result }
+    ensures end { MayEndWriting result }
+    ensures failed { W.has_failed writer.new ≡ (is_write_fault (Some result) || W.has_failed writer.old) }
 {
     'runs: for _ in source.rt().forever() {
         if let Some(end) = write_run(source, writer, batch) {
@@ -59,7 +62,8 @@ fn write_run<L: Ledger, S: Calls<L>, R: Wait, W: Outgoing, C: Clock, G: Gate>(
 ) -> Option<WorkerEnd>
     ensures same { source.new ≡ source.old }
     ensures written { WritesIfEnded source.old.client (W.contents writer.old) (W.contents writer.new) result }
-    ensures end { IfSome result (MayEndWriting W.can_fail) }
+    ensures end { IfSome result MayEndWriting }
+    ensures failed { W.has_failed writer.new ≡ (is_write_fault result || W.has_failed writer.old) }
 {
     let rung = source.rung();
     let put = put_run(source, writer, batch);
@@ -79,7 +83,7 @@ fn put_run<L: Ledger, S: Calls<L>, R: Wait, W: Outgoing, C: Clock, G: Gate>(
 ) -> Put
     ensures same { source.new ≡ source.old }
     ensures written { WritesPut source.old.client (W.contents writer.old) (W.contents writer.new) result }
-    ensures fault { MayBePut W.can_fail result }
+    ensures failed { W.has_failed writer.new ≡ (is_unwritten (Some result) || W.has_failed writer.old) }
 {
     put_out(source, writer, batch)
 }

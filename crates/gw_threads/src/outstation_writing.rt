@@ -1,6 +1,6 @@
 //! The writer towards an outstation.
 ghost use Rattle.std.specs.Prelude.{◌≡◌, IfSome};
-ghost use Rattle.gw_ends.specs.Ends.{MayEndWriting};
+ghost use Rattle.gw_threads.specs.Sending.{MayEndSending};
 
 use crate::call::make_call;
 use crate::gate::{Gate, Place};
@@ -28,7 +28,7 @@ pub fn outstation_writer<L: Ledger, S: Calls<L>, R: Wait + Sleeps, W: Outgoing, 
     gate: &G,
 ) -> (Pass<L>, WorkerEnd)
     ensures own { result.0.actor ≡ pass.actor }
-    ensures end { MayEndWriting W.can_fail result.1 }
+    ensures end { MayEndSending W.has_failed result.1 }
 {
     let mut pass = pass;
     let mut streak = RequestStreak::new();
@@ -62,7 +62,7 @@ fn write_next<L: Ledger, S: Calls<L>, R: Wait + Sleeps, W: Outgoing, C: Clock, G
     gate: &G,
 ) -> Option<WorkerEnd>
     ensures own { pass.new.actor ≡ pass.old.actor }
-    ensures end { IfSome result (MayEndWriting W.can_fail) }
+    ensures end { IfSome result (MayEndSending W.has_failed) }
 {
     // Read before all that a ring may tell of.
     let rung = rung::<L, S>(shared, outstation);

@@ -1,5 +1,5 @@
 //! Ends of connections in memory.
-ghost use Rattle.std.specs.Prelude.{None};
+ghost use Rattle.std.specs.Prelude.{false, None};
 
 use crate::opening::Shared;
 use crate::peers::{MASTER, Source, Still};
@@ -8,6 +8,7 @@ use gw_readers::{
     Arrival, Gate, Incoming, Line, Outgoing, Pass, Patience, Unwritten, WorkerEnd, client_reader,
     outstation_reader,
 };
+use std::alloc::Global;
 use std::sync::Wait;
 use std::sync::atomic::{AtomicBool, Ordering};
 use std::sync::ledger::Ledger;
@@ -22,7 +23,7 @@ pub struct Sent<'a> {
 }
 
 impl<'a> Incoming for Sent<'a> {
-    ghost can_fail = { λ _. Unit {0} };
+    ghost has_failed = { λ _. false };
 
     fn receive(&mut self, buffer: &mut [u8]) -> Arrival {
         let count = self.rest.len().min(PIECE).min(buffer.len());
@@ -40,20 +41,34 @@ impl<'a> Incoming for Sent<'a> {
 #[derive(Drop)]
 pub struct Client<'a> {
     pub octets: Vec<u8>,
-    pub room: usize,
+    room: usize,
     /// Whether an interrogation's termination was among them.
-    pub has_ended: &'a AtomicBool,
+    has_ended: &'a AtomicBool,
+    has_failed: bool,
+}
+
+impl<'a> Client<'a> {
+    /// One that has taken nothing.
+    pub fn new(alloc: Global, room: usize, has_ended: &'a AtomicBool) -> Client<'a> {
+        Client {
+            octets: Vec::new(alloc),
+            room,
+            has_ended,
+            has_failed: false,
+        }
+    }
 }
 
 impl<'a> Outgoing for Client<'a> {
     ghost contents = { λ _. None };
 
-    ghost can_fail = { λ _. Unit {0} };
+    ghost has_failed = { λ client. client.has_failed };
 
     fn hand(&mut self, octets: &[u8]) -> Result<(), Unwritten> {
         let count = octets.len().min(self.room);
         self.room -= count;
         if self.octets.extend_from_slice(&octets[..count]).is_err() || count < octets.len() {
+            self.has_failed = true;
             return Err(Unwritten);
         }
         if has_termination(octets) {
@@ -70,7 +85,7 @@ pub struct Outstation;
 impl Outgoing for Outstation {
     ghost contents = { λ _. None };
 
-    ghost can_fail = { λ _. Unit {0} };
+    ghost has_failed = { λ _. false };
 
     fn hand(&mut self, _octets: &[u8]) -> Result<(), Unwritten> {
         Ok(())

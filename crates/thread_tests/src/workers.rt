@@ -250,11 +250,7 @@ fn write_client<L: Ledger, R: Host>(
         .taken
         .get(usize::from(client))
         .expect(scene.rt, "a client");
-    let mut writer = Client {
-        octets: Vec::new(scene.rt.alloc()),
-        room: usize::MAX,
-        has_ended: &taken.has_ended,
-    };
+    let mut writer = Client::new(scene.rt.alloc(), usize::MAX, &taken.has_ended);
     let ended = client_writer(
         scene.rt,
         scene.shared,

@@ -1,4 +1,5 @@
-use Rattle.std.proofs.Common.{◌∙◌, subst}
+use Rattle.std.proofs.Common.{◌||◌, Bool, Some, ap, ◌∙◌, subst}
+use Rattle.gw_ends.specs.Ends.{is_write_fault}
 use Rattle.gw_threads.specs.Written.{Asking, Writes, Wrote}
 use Rattle.gw_threads.proofs.Gathering.{wrote-then, writes-then}
 use Rattle.gw_threads.proofs.client_writing.write_on.Goals as goal
@@ -20,4 +21,10 @@ runs-preserved g c =
       wrote =
           wrote-then _ _ now behind c.runs.invariant.wrote
           (subst (λ (w : Asking). Wrote w.client now behind) c.runs.invariant.same c.in_default.ensures.written);
+      failed = c.in_default.ensures.failed ∙ c.runs.invariant.failed;
     }
+
+pub returns-in-Some-write_run-clause-failed : goal.returns-in-Some-write_run-clause-failed
+returns-in-Some-write_run-clause-failed g c =
+    c.in-Some-write_run.ensures.failed
+    ∙ ap (λ (b : Bool). is_write_fault (Some c.in-Some-write_run.end) || b) c.runs.invariant.failed

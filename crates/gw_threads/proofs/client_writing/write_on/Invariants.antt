@@ -1,4 +1,4 @@
--- The runs so far were handed over.
+-- The runs so far were handed over, and no write failed.
 use Rattle.std.proofs.Common.{◌≡◌}
 use Rattle.gw_threads.specs.Written.{Wrote}
 use Rattle.gw_threads.proofs.client_writing.write_on.Given as goal
@@ -7,4 +7,5 @@ abbrev pub invariant-runs : goal.invariant-runs
 invariant-runs g l = record {
   same : l.source ≡ l.initial.source;
   wrote : Wrote l.initial.source.client (g.W.Outgoing.contents l.initial.writer) (g.W.Outgoing.contents l.writer);
+  failed : g.W.Outgoing.has_failed l.writer ≡ g.W.Outgoing.has_failed l.initial.writer;
 }

@@ -35,4 +35,5 @@ segments-preserved g c =
           (appends-more _ _ _ _ _ c.segments.invariant.handed
           (subst (Appends (g.W.Outgoing.contents c.segments.self.writer) (g.W.Outgoing.contents c.hand.new.self))
           framed_so c.in_ok-hand.ensures.ok));
+      failed = c.in_ok-hand.ensures.failed ∙ c.segments.invariant.failed;
     }

@@ -1,4 +1,4 @@
--- The segments so far were handed over, a frame each.
+-- The segments so far were handed over, a frame each, and no write failed.
 use Rattle.std.proofs.Common.{◌≡◌, ◌+◌, ◌%◌, ◌++◌, length}
 use Rattle.std.specs.Io.KnownBytes.{Appends}
 use Rattle.gw_ends.specs.Framed.{framed}
@@ -12,4 +12,5 @@ invariant-segments g l = record {
   segments : l.yielded ++ l.segment-iterator ≡ l.initial.segment-iterator;
   handed : Appends (g.W.Outgoing.contents l.initial.self.writer) (g.W.Outgoing.contents l.self.writer)
       (framed l.initial.self.own l.initial.self.peer l.yielded);
+  failed : g.W.Outgoing.has_failed l.self.writer ≡ g.W.Outgoing.has_failed l.initial.self.writer;
 }
