@@ -2,3 +2,4 @@ pub mod Meant
 pub mod Sendable
 pub mod AtOnce
 pub mod Arranged
+pub mod Wanted

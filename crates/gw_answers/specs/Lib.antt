@@ -6,3 +6,4 @@ pub mod AtOnce
 pub mod Octets
 pub mod Meaning
 pub mod Example
+pub mod Wanted

@@ -9,11 +9,13 @@ ghost use Rattle.iec_asdu.specs.Packing.{taken_of};
 ghost use Rattle.iec_command.specs.declared.command.Command.{Command as AnyCommand};
 ghost use Rattle.iec_command.specs.Commands.{command_of};
 ghost use Rattle.gw_judge.specs.Judging.{judged};
+ghost use Rattle.gw_judge.specs.Refusals.{IsMalformed};
 ghost use Rattle.gw_answers.specs.declared.outgoing.AsduAnswer.{AsduAnswer as AnyAnswer};
-ghost use Rattle.gw_answers.specs.Answers.{answered as answered_by};
+ghost use Rattle.gw_answers.specs.Answers.{answered as answered_by, places_for};
 ghost use Rattle.gw_answers.specs.AtOnce.{Gets};
 ghost use Rattle.gw_answers.specs.Meaning.{CanSendAnswer, Commands, IsSendable, IsSentBack, Means, Tells, meaning_of, packed_asdu};
 ghost use Rattle.gw_answers.specs.Octets.{answer_octets, octets_in, packed_octets};
+ghost use Rattle.gw_answers.specs.Wanted.{SpellsExecute, SpellsInterrogation};
 
 /// What is written of an answer means what it was made of: the command or the observation that goes out, or the octets
 /// of an ASDU that comes back as it came, but for its cause, and P/N, which is set.
@@ -46,4 +48,17 @@ pub fn answers_are_due()
         → HasSingleAddresses setup.rows setup.controls
         → (answered_by setup picture pending asdu (judged setup (octets_in asdu)) ≡ Some answer)
         ↔ Gets setup picture pending asdu answer }
+{}
+
+/// How many places have to be free for what is answered to an ASDU that isn't malformed, by its octets: none exactly for
+/// an interrogation that is accepted; two exactly for an execute with a known cause and a known common address; one for
+/// all else.
+pub fn places_are_wanted()
+    ensures none { (setup : Setup) (pending : Bool) (octets : List ℕ) → (IsMalformed octets → ⊥)
+        → (places_for pending (judged setup octets) ≡ 0) ↔ SpellsInterrogation setup pending octets }
+    ensures two { (setup : Setup) (pending : Bool) (octets : List ℕ) → (IsMalformed octets → ⊥)
+        → (places_for pending (judged setup octets) ≡ 2) ↔ SpellsExecute setup octets }
+    ensures one { (setup : Setup) (pending : Bool) (octets : List ℕ) → (IsMalformed octets → ⊥)
+        → (places_for pending (judged setup octets) ≡ 1)
+        ↔ ((SpellsInterrogation setup pending octets → ⊥) × (SpellsExecute setup octets → ⊥)) }
 {}
