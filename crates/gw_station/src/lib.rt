@@ -8,6 +8,7 @@ mod event;
 pub mod examples;
 pub mod laws;
 mod news;
+mod queue;
 mod rest;
 mod ring;
 pub mod ring_examples;

@@ -3,6 +3,7 @@ ghost use Rattle.std.specs.Prelude.{◌≡◌, ◌+◌, ◌-◌, ◌<◌, ◌≤
 ghost use Rattle.circular_buffer.specs.Buffer.{buffer};
 ghost use Rattle.gw_station.specs.Ring.{empty_ring_after, news_from, oldest, ring_with};
 
+use crate::queue::refilled;
 use circular_buffer::HeapCircularBuffer;
 use gw_model::{Memory, Observation};
 use std::alloc::Global;
@@ -61,12 +62,8 @@ impl NewsRing {
         requires { room ≡ buffer [] self.now.limit }
         ensures { result ≡ self.now }
     {
-        let mut news = room;
-        let (front, back) = self.news.as_slices();
-        news.extend_from_slice(front);
-        news.extend_from_slice(back);
         NewsRing {
-            news,
+            news: refilled(room, &self.news),
             next: self.next,
         }
     }

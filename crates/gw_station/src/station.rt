@@ -1,7 +1,6 @@
 //! What is known of one client.
 ghost use Rattle.std.specs.Prelude.{◌≡◌, ◌<◌, ◌≤◌, ◌-◌, ◌+◌, ◌^◌, ℕ, true, false, None, Some, [], ◌∷◌, ◌++◌, ◌&&◌, drop, is_some, length, nat_le, option_map, slice_get, take, IfOk, IfSome, OnErr, OnOk};
 ghost use Rattle.std.specs.List.{AllByRecursion};
-ghost use Rattle.std.specs.VecDeque.{deque_capacity};
 ghost use Rattle.iec_apci.specs.Apdu.{Information};
 ghost use Rattle.iec_apci.specs.Buffer.{buffer_of};
 ghost use Rattle.iec_window.specs.Counts.{sent_in_all};
@@ -29,9 +28,11 @@ use crate::client::Stage;
 use crate::cursor::Cursor;
 use crate::event::{Event, Said, Why};
 use crate::news::{MOST_PACKED, pack_news};
+use crate::queue::{push, refilled};
 use crate::rest::PartsLeft;
 use crate::ring::NewsRing;
 use crate::sending::Sending;
+use circular_buffer::HeapCircularBuffer;
 use gw_answers::{
     AsduAnswer, OwnAsdu, PackedAsdu, answer_asdu, answered, command_by, command_with, confirmed,
     is_accepted_act, places_for, sections_of,
@@ -44,7 +45,6 @@ use iec_command::Command;
 use iec_command::causes::ACTIVATION_TERMINATION;
 use iec_window::{Limits, Window};
 use std::alloc::Global;
-use std::collections::VecDeque;
 use std::marker::Model;
 
 /// How many confirmations of U formats may wait.
@@ -60,9 +60,9 @@ pub struct Station {
     stage: Stage,
     window: Window,
     /// Confirmations of U formats that wait, oldest first.
-    confirmations: VecDeque<Signal>,
+    confirmations: HeapCircularBuffer<Signal>,
     /// The answers to its ASDUs that wait, oldest first.
-    answers: VecDeque<AsduAnswer>,
+    answers: HeapCircularBuffer<AsduAnswer>,
     /// How many places for answers its orders hold until their outcomes.
     held: usize,
     /// In a session: where it stands in the news.
@@ -72,9 +72,8 @@ pub struct Station {
 }
 
 impl Model for Station {
-    ghost use Rattle.std.specs.Prelude.{◌+◌, ◌≤◌, length};
+    ghost use Rattle.std.specs.Prelude.{◌≡◌, ◌+◌, ◌≤◌, length};
     ghost use Rattle.std.specs.List.{AllByRecursion};
-    ghost use Rattle.std.specs.VecDeque.{deque_capacity};
     ghost use Rattle.gw_answers.specs.Octets.{IsReturnable};
     ghost use Rattle.gw_station.specs.Ring.{Seat};
 
@@ -91,8 +90,8 @@ impl Model for Station {
     } };
 
     // There is room for 32 confirmations, and for 32 answers and orders, whose answers can be spelled.
-    ghost invariant = { λ s. (length s.confirmations.items ≤ 32) × (32 ≤ deque_capacity s.confirmations)
-        × (length s.answers.items + s.held ≤ 32) × (32 ≤ deque_capacity s.answers)
+    ghost invariant = { λ s. (length s.confirmations.items ≤ 32) × (s.confirmations.capacity ≡ 32)
+        × (length s.answers.items + s.held ≤ 32) × (s.answers.capacity ≡ 32)
         × AllByRecursion IsReturnable s.answers.items };
 }
 
@@ -103,8 +102,8 @@ impl Station {
         ensures { IfOk result (λ station. station ≡ seat_down limits.now) }
     {
         let window = Window::new(alloc, limits.k, limits.w, limits.t1, limits.t2, limits.t3)?;
-        let confirmations = VecDeque::with_capacity(alloc, MOST_CONFIRMATIONS)?;
-        let answers = VecDeque::with_capacity(alloc, MOST_ANSWERS)?;
+        let confirmations = HeapCircularBuffer::with_capacity(alloc, MOST_CONFIRMATIONS)?;
+        let answers = HeapCircularBuffer::with_capacity(alloc, MOST_ANSWERS)?;
         Ok(Station {
             alloc,
             stage: Stage::Down,
@@ -122,10 +121,10 @@ impl Station {
         ensures { IfOk result (λ copy. copy ≡ self.now) }
     {
         let window = self.window.copy()?;
-        let none = VecDeque::new(self.alloc);
-        let confirmations = refilled(none, &self.confirmations, MOST_CONFIRMATIONS)?;
-        let none = VecDeque::new(self.alloc);
-        let answers = refilled(none, &self.answers, MOST_ANSWERS)?;
+        let room = HeapCircularBuffer::with_capacity(self.alloc, MOST_CONFIRMATIONS)?;
+        let confirmations = refilled(room, &self.confirmations);
+        let room = HeapCircularBuffer::with_capacity(self.alloc, MOST_ANSWERS)?;
+        let answers = refilled(room, &self.answers);
         let rest = self.rest.copy()?;
         Ok(Station {
             window,
@@ -143,8 +142,8 @@ impl Station {
         // Nothing of its answer is used.
         drop(spare.rest);
         let window = self.window.copy_over(spare.window)?;
-        let confirmations = refilled(spare.confirmations, &self.confirmations, MOST_CONFIRMATIONS)?;
-        let answers = refilled(spare.answers, &self.answers, MOST_ANSWERS)?;
+        let confirmations = refilled(spare.confirmations, &self.confirmations);
+        let answers = refilled(spare.answers, &self.answers);
         let rest = self.rest.copy()?;
         Ok(Station {
             window,
@@ -317,7 +316,7 @@ impl Station {
         requires { length self.old.answers + self.old.held < places }
         ensures { self.new ≡ record self.old { answers = self.old.answers ++ Made answer ∷ [] } }
     {
-        self.answers.push_back_reserved(AsduAnswer::Made(answer));
+        push(&mut self.answers, AsduAnswer::Made(answer));
     }
 
     /// Whether the client is up, and `pump` would give an APDU at a moment.
@@ -474,7 +473,7 @@ impl Station {
             }
         }
         if let Some(answer) = answered(settings, picture, pending, asdu, judged) {
-            self.answers.push_back_reserved(answer);
+            push(&mut self.answers, answer);
         }
         Ok(())
     }
@@ -505,7 +504,7 @@ impl Station {
             _ => self.window.heard(moment),
         }
         if let Some(confirmation) = signal.confirmation() {
-            self.confirmations.push_back_reserved(confirmation);
+            push(&mut self.confirmations, confirmation);
         }
     }
 
@@ -743,22 +742,4 @@ impl Station {
             None => None,
         };
     }
-}
-
-/// The same elements, with room for so many at least, in the memory of a spare queue where that suffices.
-fn refilled<T: Copy>(
-    mut spare: VecDeque<T>,
-    elements: &VecDeque<T>,
-    room: usize,
-) -> Result<VecDeque<T>, Memory>
-    ensures items { IfOk result (λ copy. copy.items ≡ elements.now.items) }
-    ensures room { IfOk result (λ copy. room ≤ deque_capacity copy) }
-{
-    spare.clear();
-    let mut copy = spare.into_vec();
-    copy.reserve(room)?;
-    let (front, back) = elements.as_slices();
-    copy.extend_from_slice(front)?;
-    copy.extend_from_slice(back)?;
-    Ok(VecDeque::from_vec(copy))
 }

@@ -1,7 +1,5 @@
-use Rattle.std.proofs.Common.{◌≡◌, ℕ, ◌<◌, ◌≤◌, ◌⊎◌, true, false, List, [], ◌∷◌, length, Some, None, inl, inr, refl, sym, ap, subst, ◌∙◌, arith, rules}
+use Rattle.std.proofs.Common.{◌≡◌, ℕ, ◌<◌, ◌≤◌, ◌⊎◌, false, List, [], ◌∷◌, Some, None, inl, inr, refl, sym, ap, subst, ◌∙◌, rules}
 use Rattle.std.specs.Prelude.{is_some, option_map, slice_get}
-use Rattle.std.proofs.lemmas.Option.{slice_get_read}
-use Rattle.std.proofs.lemmas.Bool.{false≢true}
 use Rattle.std.proofs.lemmas.Option.{none-some}
 use Rattle.gw_station.specs.declared.sending.Sending.TheVariants as sendings
 use Rattle.gw_station.proofs.Line.{first_answer, first_older, first_part, first_news}
@@ -9,28 +7,21 @@ use Rattle.gw_station.specs.Ring.{seen, Seat}
 use Rattle.gw_station.proofs.station.Station.first_in_line.Goals as goal
 use Rattle.gw_station.proofs.station.Station.first_in_line.Goals.{else-is_some-via-then-is_some+else-older-gt0, else-is_some-via-else-is_some}
 
-nothing : {A : Type 0} (xs : List A) (n : ℕ) → n ≡ length xs → (0 < n → false ≡ true) → xs ≡ []
-nothing [] n all some = refl
-nothing (x ∷ xs) n all some = absurd (false≢true (some (omega (arith, all))))
-
 without_first : {A : Type 0} (xs : List A) → slice_get xs 0 ≡ None → xs ≡ []
 without_first [] none = refl
 without_first (x ∷ xs) none = absurd (none-some x (sym none))
 
 pub returns-in-Some : goal.returns-in-Some
 returns-in-Some c =
-    let answers = c.self.inside.answers in
     let answer = c.in-Some.answer.now in
-    let first = slice_get_read answers.items answers.len 0 answer answers.ok.0
-    (c.in-Some.ensures.variant.0 refl) c.in-Some.ensures.lookup in
     first_answer (seen c.args.news.now c.args.self.now) answer
-    (subst (λ (k : Seat). slice_get k.answers 0 ≡ Some answer) c.self.view_is first)
+    (subst (λ (k : Seat). slice_get k.answers 0 ≡ Some answer) c.self.view_is (sym c.in-Some.ensures))
 
 pub returns-then-older-gt0 : goal.returns-then-older-gt0
 returns-then-older-gt0 c =
     let answers = c.self.inside.answers in
     let none = sym (ap (λ (k : Seat). k.answers) c.self.view_is)
-    ∙ nothing answers.items answers.len answers.ok.0 c.in_default.ensures.variant.1 in
+    ∙ without_first answers.items (sym c.in_default.ensures) in
     let news : c.map-oldest.result ≡ option_map sendings.News (slice_get (seen c.args.news.now c.args.self.now).queue 0) = search rules in
     let queued = sym (c.map-oldest.ensures.variant ∙ ap is_some c.oldest_news.ensures) in
     let waits = queued ∙ (sym c.is_some.ensures ∙ c.if-is_some.true) in
@@ -43,7 +34,7 @@ returns-in-Some-first c =
     let answers = c.self.inside.answers in
     let part = c.in-Some-first.part in
     let none = sym (ap (λ (k : Seat). k.answers) c.self.view_is)
-    ∙ nothing answers.items answers.len answers.ok.0 c.in_default.ensures.variant.1 in
+    ∙ without_first answers.items (sym c.in_default.ensures) in
     let queued = sym (c.map-oldest.ensures.variant ∙ ap is_some c.oldest_news.ensures) in
     let no_news : (s.older ≤ 0) ⊎ (is_some (slice_get s.queue 0) ≡ false) = elim c.else-is_some.branch [
       | else-is_some-via-then-is_some+else-older-gt0 w ↦
@@ -57,7 +48,7 @@ pub returns : goal.returns
 returns c =
     let answers = c.self.inside.answers in
     let none = sym (ap (λ (k : Seat). k.answers) c.self.view_is)
-    ∙ nothing answers.items answers.len answers.ok.0 c.in_default.ensures.variant.1 in
+    ∙ without_first answers.items (sym c.in_default.ensures) in
     let first : slice_get (seen c.args.news.now c.args.self.now).rest 0 ≡ None = search rules in
     let news : c.map-oldest.result ≡ option_map sendings.News (slice_get (seen c.args.news.now c.args.self.now).queue 0) = search rules in
     news ∙ first_news (seen c.args.news.now c.args.self.now) none (without_first (seen c.args.news.now c.args.self.now).rest first)

@@ -1,9 +1,23 @@
-use Rattle.std.proofs.Common.{ap, ◌∙◌}
+use Rattle.std.proofs.Common.{length, ap, ◌∙◌, arith}
+use Rattle.std.proofs.lemmas.List.{length-drop}
+use Rattle.circular_buffer.specs.Buffer.{Buffer}
 use Rattle.gw_map.specs.Settings.{station_clocks}
 use Rattle.iec_apci.specs.Buffer.{buffer_of}
+use Rattle.iec_apci.specs.declared.apdu.Signal.{Signal}
 use Rattle.gw_station.proofs.Sent.{news_some, news_content, news_sent, part_is_first, part_content_is, parts_sent}
 use Rattle.gw_station.specs.Ring.{seen}
 use Rattle.gw_station.proofs.station.Station.send.Goals as goal
+
+pub invariant_of-self : goal.invariant_of-self
+invariant_of-self c =
+    let kept = c.self.invariant in
+    let left = c.pop_front.ensures.items in (
+      omega (arith, ap (λ (b : Buffer Signal). length b.items) left, length-drop 1 c.self.inside.confirmations.items, kept.0),
+      ap (λ (b : Buffer Signal). b.capacity) left ∙ kept.1,
+      kept.2,
+      kept.3,
+      kept.4,
+    )
 
 pub send_news-requires-clause-some : goal.send_news-requires-clause-some
 send_news-requires-clause-some c =

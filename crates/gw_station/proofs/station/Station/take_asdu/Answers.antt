@@ -1,5 +1,8 @@
-use Rattle.std.proofs.Common.{◌≡◌, sym, ◌∙◌, rules}
+use Rattle.std.proofs.Common.{◌≡◌, [], ◌∷◌, length, sym, ap, ◌∙◌, rules}
+use Rattle.std.proofs.lemmas.List.{length-append}
+use Rattle.circular_buffer.specs.Buffer.{Buffer}
 use Rattle.gw_answers.specs.Interrogations.{answer_to, asked_addresses}
+use Rattle.gw_answers.specs.declared.outgoing.AsduAnswer.{AsduAnswer}
 use Rattle.gw_answers.specs.Sections.{parts_of}
 use Rattle.gw_station.proofs.Answered.{answer_joined, returnable_more}
 use Rattle.gw_station.proofs.station.Station.take_asdu.Goals as goal
@@ -7,10 +10,14 @@ use Rattle.gw_station.proofs.station.Station.take_asdu.Goals as goal
 pub invariant_of-self-in-Some : goal.invariant_of-self-in-Some
 invariant_of-self-in-Some c =
     let kept = c.self.invariant in
+    let waiting = c.self.inside.answers.items in
+    let more = ap (λ (b : Buffer AsduAnswer). b.items) c.push.ensures in
+    let capacity = ap (λ (b : Buffer AsduAnswer). b.capacity) c.push.ensures ∙ kept.3 in
+    let count = ap length more ∙ length-append waiting (c.in-Some.answer ∷ []) in
     let returnable = returnable_more c.args.settings.now c.args.picture.now c.is_pending-pending.result c.args.asdu.now
-    c.args.judged.now c.in-Some.answer c.self.inside.answers.items c.push_back_reserved.new.self.items
-    (sym c.requires.judged) (sym c.answered.ensures ∙ c.in-Some.is) c.push_back_reserved.ensures.items kept.4 in
-    search (rules, returnable)
+    c.args.judged.now c.in-Some.answer waiting c.push.new.queue.items
+    (sym c.requires.judged) (sym c.answered.ensures ∙ c.in-Some.is) more kept.4 in
+    search (rules, returnable, capacity, count)
 
 pub returns-then-is_accepted_act-clause-client : goal.returns-then-is_accepted_act-clause-client
 returns-then-is_accepted_act-clause-client c =
