@@ -8,33 +8,26 @@ use thiserror::Error;
 #[derive(Clone, Copy, Debug, PartialEq, Error)]
 pub enum Fault {
     /// A key that is required is not there.
+    #[error("2 Missing")]
     Missing,
     /// The value is of another type.
+    #[error("3 WrongType")]
     WrongType,
     /// A number is too small or too large, a text is none of the words or no rule, or there are too many entries.
+    #[error("4 OutOfRange")]
     OutOfRange,
     /// The table has no such key.
+    #[error("5 UnknownKey")]
     UnknownKey,
     /// Another point before has the same outstation, kind and index.
+    #[error("6 DoubleSource")]
     DoubleSource,
     /// Another point or control before has the same address.
+    #[error("7 DoubleAddress")]
     DoubleAddress,
     /// What is asked doesn't fit the kind.
+    #[error("8 KindMismatch")]
     KindMismatch,
-}
-
-impl fmt::Display for Fault {
-    fn fmt<W: fmt::Write>(&self, f: &mut fmt::Formatter<W>) -> fmt::Result {
-        f.write_str(match self {
-            Fault::Missing => "2 Missing",
-            Fault::WrongType => "3 WrongType",
-            Fault::OutOfRange => "4 OutOfRange",
-            Fault::UnknownKey => "5 UnknownKey",
-            Fault::DoubleSource => "6 DoubleSource",
-            Fault::DoubleAddress => "7 DoubleAddress",
-            Fault::KindMismatch => "8 KindMismatch",
-        })
-    }
 }
 
 /// Where in the file something is wrong.
@@ -143,7 +136,8 @@ impl<T: Drop> From<AllocFailed<T>> for SettingsFault {
 }
 
 /// What is wrong with one table, and at which key.
-#[derive(Clone, Copy)]
+#[derive(Clone, Copy, Debug, Error)]
+#[error("{fault} {key}")]
 pub struct KeyFault {
     pub fault: Fault,
     pub key: &'static str,
