@@ -2,6 +2,8 @@
 ghost use Rattle.std.specs.Prelude.{◌≡◌};
 ghost use Rattle.gw_http.specs.Requests.{before_query, behind_host, found_at, host_end, path_of, query_in, refused, request_of};
 
+use thiserror::Error;
+
 /// What is told of the gateway.
 #[derive(Clone, Copy)]
 pub enum Resource {
@@ -12,15 +14,19 @@ pub enum Resource {
 }
 
 /// Why nothing is told.
-#[derive(Clone, Copy)]
+#[derive(Clone, Copy, Debug, Error)]
 pub enum RequestFault {
     /// What came is no request of HTTP/1.0 or HTTP/1.1.
+    #[error("no request of HTTP/1.0 or HTTP/1.1")]
     Malformed,
     /// There is nothing at this path.
+    #[error("nothing at this path")]
     NotFound,
     /// The method is neither GET nor HEAD.
+    #[error("neither GET nor HEAD")]
     NotAllowed,
     /// The head of the request has more than 4,096 octets or more than 64 fields.
+    #[error("more than 4,096 octets or more than 64 fields")]
     TooLong,
 }
 

@@ -7,15 +7,19 @@ use crate::line::InputLine;
 use gw_model::Memory;
 use std::alloc::AllocError;
 use std::io::{self, BufRead, ErrorKind};
+use thiserror::Error;
 
 /// Why the program ends before its input does.
-#[derive(Clone, Copy)]
+#[derive(Clone, Copy, Debug, Error)]
 pub enum Stop {
     /// Reading or writing failed.
+    #[error("reading or writing failed")]
     Fault,
     /// Memory ran out.
+    #[error("no memory")]
     Memory,
     /// 4,294,967,295 reads didn't reach the end of the input.
+    #[error("too many reads")]
     TooManyReads,
 }
 

@@ -2,19 +2,25 @@
 
 use gw_model::Memory;
 use std::{fmt, io};
+use thiserror::Error;
 
 /// Why no further step is recorded.
-#[derive(Clone, Copy, PartialEq)]
+#[derive(Clone, Copy, Debug, PartialEq, Error)]
 pub enum RecordEndCause {
     /// More waited to be written than may wait.
+    #[error("too many steps waited to be written")]
     QueueFull,
     /// A file couldn't be written, or a step has no line.
+    #[error("it couldn't be written")]
     NotWritten,
     /// A file would have become larger than it may.
+    #[error("it has {megabytes} MB")]
     Full { megabytes: u64 },
     /// Memory ran out.
+    #[error("no memory")]
     Memory,
     /// The record was closed.
+    #[error("the gateway ends")]
     Closed,
 }
 
@@ -27,18 +33,6 @@ impl From<Memory> for RecordEndCause {
 impl From<io::Error> for RecordEndCause {
     fn from(_error: io::Error) -> RecordEndCause {
         RecordEndCause::NotWritten
-    }
-}
-
-impl fmt::Display for RecordEndCause {
-    fn fmt<W: fmt::Write>(&self, f: &mut fmt::Formatter<W>) -> fmt::Result {
-        match self {
-            RecordEndCause::QueueFull => f.write_str("too many steps waited to be written"),
-            RecordEndCause::NotWritten => f.write_str("it couldn't be written"),
-            RecordEndCause::Full { megabytes } => write!(f, "it has {megabytes} MB"),
-            RecordEndCause::Memory => f.write_str("no memory"),
-            RecordEndCause::Closed => f.write_str("the gateway ends"),
-        }
     }
 }
 
