@@ -4,6 +4,7 @@ ghost use Rattle.std.specs.Io.KnownBytes.{Appends};
 ghost use Rattle.gw_ends.specs.Ends.{is_fault, reading_end, IsWithin};
 
 use crate::worker_end::WorkerEnd;
+use thiserror::Error;
 
 /// What came from a peer.
 #[derive(Clone, Copy)]
@@ -51,7 +52,8 @@ pub trait Incoming {
 }
 
 /// The octets weren't all taken, or none was and none will be.
-#[derive(Clone, Copy)]
+#[derive(Clone, Copy, Debug, Error)]
+#[error("not all octets were taken")]
 pub struct Unwritten;
 
 /// Where octets go to.

@@ -10,6 +10,7 @@ use gw_effects::{Machine, Reply, Step, StepFault};
 use gw_model::Memory;
 use std::alloc::Global;
 use std::marker::Model;
+use thiserror::Error;
 
 /// Counts the calls of each actor, and keeps the last ones on a tape: a machine as it was, and the calls since. Once
 /// memory was refused for a new base it is off for good, and counts alone.
@@ -30,7 +31,8 @@ impl<M: Machine> Model for Recorder<M> {
 }
 
 /// Memory was refused for a new base.
-#[derive(Drop)]
+#[derive(Debug, Drop, Error)]
+#[error("no room for a new base: {cause}")]
 pub struct NoRoom {
     cause: Memory,
 }

@@ -7,6 +7,7 @@ use crate::shared::Shared;
 use gw_record::Machine;
 use std::sync::Wait;
 use std::sync::ledger::{Ledger, Share};
+use thiserror::Error;
 
 /// How many calls were made.
 #[derive(Clone, Copy)]
@@ -15,9 +16,10 @@ pub struct Closed {
 }
 
 /// Why a shared core isn't closed.
-#[derive(Clone, Copy)]
+#[derive(Clone, Copy, Debug, Error)]
 pub enum CloseFault {
     /// Not all passes were handed over.
+    #[error("1 Missing")]
     Missing = 1,
 }
 
