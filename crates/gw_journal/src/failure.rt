@@ -2,43 +2,59 @@
 ghost use Rattle.std.specs.Prelude.{◌≡◌};
 ghost use Rattle.gw_journal.specs.Failures.{failure_at};
 
-use std::fmt;
 use std::io::ErrorKind;
+use thiserror::Error;
 
 /// Why a call to the system failed, as far as it makes a difference to an operator. Its number is above 0.
-#[derive(Clone, Copy)]
+#[derive(Clone, Copy, Debug, Error)]
 pub enum Failure {
     /// The host takes no connection at this port.
+    #[error("connection refused")]
     ConnectionRefused = 1,
     /// The peer reset the connection.
+    #[error("reset by peer")]
     ConnectionReset = 2,
     /// The connection was aborted.
+    #[error("connection aborted")]
     ConnectionAborted = 3,
     /// The peer takes nothing more.
+    #[error("broken pipe")]
     BrokenPipe = 4,
     /// There is no connection.
+    #[error("not connected")]
     NotConnected = 5,
     /// No answer came in time.
+    #[error("no answer in time")]
     NoAnswer = 6,
     /// There is no way to the host.
+    #[error("host unreachable")]
     HostUnreachable = 7,
     /// There is no way to the network.
+    #[error("network unreachable")]
     NetworkUnreachable = 8,
     /// The network is down.
+    #[error("network down")]
     NetworkDown = 9,
     /// No host has this name.
+    #[error("no such host")]
     NoSuchHost = 10,
     /// This is no address of a host and a port.
+    #[error("no address of a host and a port")]
     NoAddress = 11,
     /// Another program listens here.
+    #[error("address in use")]
     AddressInUse = 12,
     /// This machine hasn't this address.
+    #[error("no address of this machine")]
     ForeignAddress = 13,
     /// The system doesn't permit it.
+    #[error("permission denied")]
     PermissionDenied = 14,
     /// Memory ran out.
+    #[error("no memory")]
     Memory = 15,
     /// Anything else.
+    #[error("the system refuses")]
     Other = 16,
 }
 
@@ -104,28 +120,6 @@ impl Failure {
             | Failure::Other => false,
         }
     }
-
-    /// In words.
-    fn words(self) -> &'static str {
-        match self {
-            Failure::ConnectionRefused => "connection refused",
-            Failure::ConnectionReset => "reset by peer",
-            Failure::ConnectionAborted => "connection aborted",
-            Failure::BrokenPipe => "broken pipe",
-            Failure::NotConnected => "not connected",
-            Failure::NoAnswer => "no answer in time",
-            Failure::HostUnreachable => "host unreachable",
-            Failure::NetworkUnreachable => "network unreachable",
-            Failure::NetworkDown => "network down",
-            Failure::NoSuchHost => "no such host",
-            Failure::NoAddress => "no address of a host and a port",
-            Failure::AddressInUse => "address in use",
-            Failure::ForeignAddress => "no address of this machine",
-            Failure::PermissionDenied => "permission denied",
-            Failure::Memory => "no memory",
-            Failure::Other => "the system refuses",
-        }
-    }
 }
 
 impl From<ErrorKind> for Failure {
@@ -148,11 +142,5 @@ impl From<ErrorKind> for Failure {
             ErrorKind::OutOfMemory => Failure::Memory,
             _ => Failure::Other,
         }
-    }
-}
-
-impl fmt::Display for Failure {
-    fn fmt<W: fmt::Write>(&self, f: &mut fmt::Formatter<W>) -> fmt::Result {
-        f.write_str(self.words())
     }
 }

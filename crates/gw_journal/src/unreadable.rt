@@ -3,27 +3,32 @@
 use dnp_app::AppFault;
 use dnp_objects::{HeaderFault, ObjectFault};
 use std::fmt;
+use thiserror::Error;
 
 /// How many octets stand before the object part of a response.
 const BEFORE_OBJECTS: usize = 4;
 
 /// Why a fragment couldn't be read, with what of its octets tells an operator where. Places are counted in its object
 /// part, from 0.
-#[derive(Clone, Copy)]
+#[derive(Clone, Copy, Debug, Error)]
 pub enum Unreadable {
     /// It has fewer than four octets.
+    #[error("fewer than four octets")]
     Short,
     /// Its function is neither 129 (response) nor 130 (unsolicited response).
+    #[error("function {function}, which is no response")]
     NotResponse {
         /// Its function.
         function: u8,
     },
     /// An object header is too short to name an object and a qualifier.
+    #[error("a header of fewer than three octets at {place}")]
     ShortHeader {
         /// Where the header begins.
         place: usize,
     },
     /// An object header, or its objects, can't be read.
+    #[error("group {group} variation {variation} at {place} {}", Why(*.why, *.qualifier))]
     Object {
         /// The object group.
         group: u8,
@@ -37,6 +42,7 @@ pub enum Unreadable {
         why: HeaderFault,
     },
     /// Memory ran out.
+    #[error("no memory")]
     Memory,
 }
 
@@ -70,45 +76,6 @@ impl Unreadable {
             _ => Unreadable::ShortHeader { place },
         }
     }
-}
-
-impl fmt::Display for Unreadable {
-    fn fmt<W: fmt::Write>(&self, f: &mut fmt::Formatter<W>) -> fmt::Result {
-        match *self {
-            Unreadable::Short => f.write_str("fewer than four octets"),
-            Unreadable::NotResponse { function } => write_function(f, function),
-            Unreadable::ShortHeader { place } => write_short_header(f, place),
-            Unreadable::Object {
-                group,
-                variation,
-                qualifier,
-                place,
-                why,
-            } => write_header(f, (group, variation), place, Why(why, qualifier)),
-            Unreadable::Memory => f.write_str("no memory"),
-        }
-    }
-}
-
-/// Writes which function a fragment has that is no response.
-fn write_function<W: fmt::Write>(f: &mut fmt::Formatter<W>, function: u8) -> fmt::Result {
-    write!(f, "function {function}, which is no response")
-}
-
-/// Writes where a header is cut off.
-fn write_short_header<W: fmt::Write>(f: &mut fmt::Formatter<W>, place: usize) -> fmt::Result {
-    write!(f, "a header of fewer than three octets at {place}")
-}
-
-/// Writes what is wrong with the header of an object, by its group and variation.
-fn write_header<W: fmt::Write>(
-    f: &mut fmt::Formatter<W>,
-    object: (u8, u8),
-    place: usize,
-    why: Why,
-) -> fmt::Result {
-    let (group, variation) = object;
-    write!(f, "group {group} variation {variation} at {place} {why}")
 }
 
 /// What is wrong with an object header of some qualifier, or its objects.

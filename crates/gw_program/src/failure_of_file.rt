@@ -1,27 +1,36 @@
 //! Why a file can't be read or made, in words.
 
 use gw_journal::Failure;
-use std::fmt;
 use std::io::ErrorKind;
+use thiserror::Error;
 
 /// Why a file can't be read or made, as far as it makes a difference to an operator.
-#[derive(Clone, Copy)]
-pub struct FileFailure {
-    /// What the system says of it.
-    pub kind: ErrorKind,
-    /// What is said where the system finds nothing.
-    pub missing: &'static str,
+#[derive(Clone, Copy, Debug, Error)]
+pub enum FileFailure {
+    /// The system finds nothing: what isn't there.
+    #[error("no such {0}")]
+    Missing(&'static str),
+    /// A folder stands there.
+    #[error("it is a folder")]
+    Folder,
+    /// Nothing can be written to the file system.
+    #[error("the file system is read-only")]
+    ReadOnly,
+    /// Anything else.
+    #[error(transparent)]
+    Other(Failure),
 }
 
-impl fmt::Display for FileFailure {
-    fn fmt<W: fmt::Write>(&self, f: &mut fmt::Formatter<W>) -> fmt::Result {
-        match self.kind {
-            ErrorKind::NotFound => f.write_str(self.missing),
-            ErrorKind::IsADirectory => f.write_str("it is a folder"),
-            ErrorKind::ReadOnlyFilesystem => f.write_str("the file system is read-only"),
+impl FileFailure {
+    /// That of what the system says; `missing` isn't there where it finds nothing.
+    pub fn of(kind: ErrorKind, missing: &'static str) -> FileFailure {
+        match kind {
+            ErrorKind::NotFound => FileFailure::Missing(missing),
+            ErrorKind::IsADirectory => FileFailure::Folder,
+            ErrorKind::ReadOnlyFilesystem => FileFailure::ReadOnly,
             // A failure's words for it are those of a peer's address.
-            ErrorKind::InvalidInput => fmt::Display::fmt(&Failure::Other, f),
-            kind => fmt::Display::fmt(&Failure::from(kind), f),
+            ErrorKind::InvalidInput => FileFailure::Other(Failure::Other),
+            kind => FileFailure::Other(Failure::from(kind)),
         }
     }
 }

@@ -3,24 +3,33 @@
 use crate::failure_of_file::FileFailure;
 use gw_journal::Failure;
 use gw_text::Plain;
-use std::fmt;
 use std::io::ErrorKind;
 use std::net::SocketAddr;
+use thiserror::Error;
 
 /// What keeps the gateway from serving, other than its settings and memory.
-#[derive(Drop)]
+#[derive(Debug, Drop, Error)]
 pub enum Obstacle<'a> {
     /// The status can't be served at this place.
+    #[error("can't serve the status on {place}: {1}", place = Plain(*.0))]
     Status(&'a str, Failure),
     /// Nobody can listen at this place.
+    #[error("can't listen on {place}: {1}", place = Plain(.0.as_str()))]
     Listen(String, Failure),
     /// A file of the record can't be made: how its name begins, how it ends, and why.
-    Record(&'a str, &'static str, ErrorKind),
+    #[error("can't write the record {name}{1}: {2}", name = Plain(*.0))]
+    Record(&'a str, &'static str, FileFailure),
     /// The record would be written into the settings file.
+    #[error("the record would overwrite the settings file")]
     Overwriting,
 }
 
 impl<'a> Obstacle<'a> {
+    /// That a file of the record can't be made: how its name begins and ends, and what the system says.
+    pub fn unmade(name: &'a str, end: &'static str, kind: ErrorKind) -> Obstacle<'a> {
+        Obstacle::Record(name, end, FileFailure::of(kind, "folder"))
+    }
+
     /// What is told of it on standard output.
     pub fn word(&self) -> &'static str {
         match self {
@@ -29,49 +38,6 @@ impl<'a> Obstacle<'a> {
             Obstacle::Record(..) | Obstacle::Overwriting => "record",
         }
     }
-}
-
-impl<'a> fmt::Display for Obstacle<'a> {
-    fn fmt<W: fmt::Write>(&self, f: &mut fmt::Formatter<W>) -> fmt::Result {
-        match self {
-            Obstacle::Status(place, failure) => {
-                write_failure(f, "serve the status on", place, failure)
-            }
-            Obstacle::Listen(place, failure) => {
-                write_failure(f, "listen on", place.as_str(), failure)
-            }
-            Obstacle::Record(name, end, kind) => write_unmade(f, name, end, *kind),
-            Obstacle::Overwriting => f.write_str("the record would overwrite the settings file"),
-        }
-    }
-}
-
-/// Writes what can't be done at a place, and why.
-fn write_failure<W: fmt::Write>(
-    f: &mut fmt::Formatter<W>,
-    what: &str,
-    place: &str,
-    failure: &Failure,
-) -> fmt::Result {
-    let place = Plain(place);
-    write!(f, "can't {what} {place}: {failure}")
-}
-
-/// Writes which file of a record can't be made, and why.
-fn write_unmade<W: fmt::Write>(
-    f: &mut fmt::Formatter<W>,
-    name: &str,
-    end: &str,
-    kind: ErrorKind,
-) -> fmt::Result {
-    let (name, failure) = (
-        Plain(name),
-        FileFailure {
-            kind,
-            missing: "no such folder",
-        },
-    );
-    write!(f, "can't write the record {name}{end}: {failure}")
 }
 
 /// Why nobody can listen at a place. Where it isn't an address alone, its host's name is looked up first.

@@ -3,7 +3,6 @@
 
 use crate::settings_file::BadFile;
 use gw_checker::{Unusable, explain};
-use gw_text::Plain;
 use std::fmt::Display;
 use std::{io, str};
 
@@ -25,10 +24,9 @@ pub fn refuse(rt: &HostRuntime, why: &Unusable) -> io::Result<u8> {
 /// Writes why a settings file can't be used, and a sentence on it, with what stands in front of that; gives the status.
 pub fn refuse_file(rt: &HostRuntime, front: &str, bad: &BadFile<'_>) -> io::Result<u8> {
     match bad {
-        BadFile::Unread(file, why) => {
+        BadFile::Unread(_, why) => {
             let status = refuse(rt, &why.unusable())?;
-            let file = Plain(file);
-            complain(rt, front, format_args!("can't read {file}: {why}"));
+            complain(rt, front, bad);
             Ok(status)
         }
         BadFile::Refused(octets, why) => refuse_octets(rt, front, octets.as_slice(), why),
@@ -53,6 +51,6 @@ pub fn refuse_octets(
 }
 
 /// Writes a sentence on standard error, with what stands in front of it.
-pub fn complain<D: Display + Drop>(rt: &HostRuntime, front: &str, sentence: D) {
+pub fn complain<D: Display>(rt: &HostRuntime, front: &str, sentence: &D) {
     let _ = eprintln!(rt; "{front}{sentence}");
 }

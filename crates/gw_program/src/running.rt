@@ -15,11 +15,12 @@ use gw_server::{
     Clock, Closed, Gate, Host, Network, OpenGate, Options, SystemClock, journal_of, open, serve_as,
 };
 use sha2::{Digest, Sha256};
-use std::alloc::{AllocError, AllocFailed, Global};
+use std::alloc::{AllocError, Global};
 use std::fs::File;
 use std::net::TcpListener;
 use std::sync::Wait;
 use std::{env, io, thread};
+use thiserror::Error;
 
 /// What stands in front of a sentence where standard error goes to journald: the priority of an error.
 const ERROR: &str = "<3>";
@@ -28,39 +29,25 @@ const ERROR: &str = "<3>";
 const ANSWERS: &str = ".answers";
 
 /// Why nothing is served.
-#[derive(Drop)]
+#[derive(Debug, Drop, Error)]
 enum Unserved<'a> {
     /// The settings can't be used.
-    Settings(BadFile<'a>),
+    #[error(transparent)]
+    Settings(#[from] BadFile<'a>),
     /// What is behind `--allow` is no address.
+    #[error("--allow takes an address, or an address, / and a number of bits")]
     Allow,
     /// A socket can't be opened, or a file can't be made.
+    #[error(transparent)]
     Hindered(Obstacle<'a>),
     /// Memory, or a thread, was refused.
-    Memory,
-}
-
-impl<'a> From<BadFile<'a>> for Unserved<'a> {
-    fn from(bad: BadFile<'a>) -> Unserved<'a> {
-        Unserved::Settings(bad)
-    }
+    #[error("no memory")]
+    Memory(#[from(alloc)] AllocError),
 }
 
 impl<'a> From<Memory> for Unserved<'a> {
     fn from(_memory: Memory) -> Unserved<'a> {
-        Unserved::Memory
-    }
-}
-
-impl<'a> From<AllocError> for Unserved<'a> {
-    fn from(_error: AllocError) -> Unserved<'a> {
-        Unserved::Memory
-    }
-}
-
-impl<'a, T: Drop> From<AllocFailed<T>> for Unserved<'a> {
-    fn from(_failed: AllocFailed<T>) -> Unserved<'a> {
-        Unserved::Memory
+        Unserved::Memory(AllocError)
     }
 }
 
@@ -79,18 +66,16 @@ pub fn run<H: Host>(
             Ok(0)
         }
         Err(Unserved::Settings(bad)) => refuse_file(rt, front_of(rt), &bad),
-        Err(Unserved::Allow) => {
-            eprint!(rt;
-                "error: --allow takes an address, or an address, / and a number of bits\n"
-            )?;
+        Err(refused @ Unserved::Allow) => {
+            eprintln!(rt; "error: {refused}")?;
             Ok(USAGE)
         }
         Err(Unserved::Hindered(obstacle)) => {
             let status = refuse_for(rt, obstacle.word())?;
-            complain(rt, front_of(rt), obstacle);
+            complain(rt, front_of(rt), &obstacle);
             Ok(status)
         }
-        Err(Unserved::Memory) => refuse_for(rt, "memory"),
+        Err(Unserved::Memory(_)) => refuse_for(rt, "memory"),
     }
 }
 
@@ -235,11 +220,11 @@ fn record_files<'a>(rt: &HostRuntime, path: &'a str) -> Result<(File, File), Uns
     let answers = format!(in rt.alloc(); "{path}{ANSWERS}")?;
     let steps = match File::create(rt, path) {
         Ok(steps) => steps,
-        Err(error) => return Err(Unserved::Hindered(Obstacle::Record(path, "", error.kind()))),
+        Err(error) => return Err(Unserved::Hindered(Obstacle::unmade(path, "", error.kind()))),
     };
     match File::create(rt, answers.as_str()) {
         Ok(answers) => Ok((steps, answers)),
-        Err(error) => Err(Unserved::Hindered(Obstacle::Record(path, ANSWERS, error.kind()))),
+        Err(error) => Err(Unserved::Hindered(Obstacle::unmade(path, ANSWERS, error.kind()))),
     }
 }
 

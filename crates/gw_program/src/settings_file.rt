@@ -2,50 +2,41 @@
 
 use crate::failure_of_file::FileFailure;
 use gw_checker::{LONGEST_FILE, Unusable, read_settings};
+use gw_journal::Failure;
 use gw_map::Settings;
-use std::fmt;
+use gw_text::Plain;
 use std::fs::File;
-use std::io::{self, ErrorKind, Read};
+use std::io::{self, Read};
+use thiserror::Error;
 
 /// Why a settings file can't be used.
-#[derive(Drop)]
+#[derive(Debug, Drop, Error)]
 pub enum BadFile<'a> {
     /// It can't be read: its name, and why.
+    #[error("can't read {file}: {1}", file = Plain(*.0))]
     Unread(&'a str, Unread),
     /// What stands in it can't be used: its octets, and why.
+    #[error("{1}")]
     Refused(Vec<u8>, Unusable),
 }
 
 /// Why a settings file can't be read.
-#[derive(Clone, Copy)]
+#[derive(Clone, Copy, Debug, Error)]
 pub enum Unread {
     /// It has more octets than a settings file may have.
+    #[error("it is longer than {LONGEST_FILE} octets")]
     TooLong,
     /// The system doesn't read it.
-    Failed(ErrorKind),
+    #[error(transparent)]
+    Failed(FileFailure),
 }
 
 impl Unread {
     /// What is told of it on standard output.
     pub fn unusable(self) -> Unusable {
         match self {
-            Unread::Failed(ErrorKind::OutOfMemory) => Unusable::Memory,
+            Unread::Failed(FileFailure::Other(Failure::Memory)) => Unusable::Memory,
             Unread::Failed(_) | Unread::TooLong => Unusable::File,
-        }
-    }
-}
-
-impl fmt::Display for Unread {
-    fn fmt<W: fmt::Write>(&self, f: &mut fmt::Formatter<W>) -> fmt::Result {
-        match self {
-            Unread::TooLong => write!(f, "it is longer than {LONGEST_FILE} octets"),
-            Unread::Failed(kind) => {
-                let failure = FileFailure {
-                    kind: *kind,
-                    missing: "no such file",
-                };
-                write!(f, "{failure}")
-            }
         }
     }
 }
@@ -55,7 +46,10 @@ pub fn read_octets<'a>(rt: &HostRuntime, file: &'a str) -> Result<Vec<u8>, BadFi
     match read_front(rt, file) {
         Ok(octets) if octets.len() as u64 <= LONGEST_FILE => Ok(octets),
         Ok(_octets) => Err(BadFile::Unread(file, Unread::TooLong)),
-        Err(error) => Err(BadFile::Unread(file, Unread::Failed(error.kind()))),
+        Err(error) => {
+            let failure = FileFailure::of(error.kind(), "file");
+            Err(BadFile::Unread(file, Unread::Failed(failure)))
+        }
     }
 }
 

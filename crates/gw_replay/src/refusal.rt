@@ -7,15 +7,19 @@ use dnp_app::AppFault;
 use gw_text::write_refusal;
 use iec_apci::ApciFault;
 use std::io::{self, Write};
+use thiserror::Error;
 
 /// Why octets make no step.
-#[derive(Clone, Copy)]
+#[derive(Clone, Copy, Debug, Error)]
 pub enum StepRefusal {
     /// Those of a fragment are no response.
+    #[error(transparent)]
     Fragment(AppFault),
     /// Those of a frame don't begin with an APDU.
+    #[error("apci {0}")]
     Frame(ApciFault),
     /// Those of a frame end before an APDU does, or go on behind it.
+    #[error("apci 0 Partial")]
     Partial,
 }
 
