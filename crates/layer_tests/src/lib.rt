@@ -9,6 +9,8 @@ mod checks;
 #[cfg(test)]
 mod largest;
 #[cfg(test)]
+mod octets;
+#[cfg(test)]
 mod skipped;
 #[cfg(test)]
 mod summer_time;

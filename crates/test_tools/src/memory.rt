@@ -118,13 +118,13 @@ pub fn read_client<L: Ledger, R: Wait + AllocGlobal, I: Incoming, G: Gate>(
 }
 
 /// Reads what an outstation sends.
-pub fn read_outstation<L: Ledger, R: Wait + AllocGlobal, I: Incoming, G: Gate>(
+pub fn read_outstation<L: Ledger, R: Wait + AllocGlobal, I: Incoming, W: Outgoing, G: Gate>(
     rt: &R,
     shared: &Shared<L>,
     pass: Pass<L>,
     source: &Source,
     input: &mut I,
-    line: &Line<Outstation>,
+    line: &Line<W>,
     gate: &G,
 ) -> (Pass<L>, WorkerEnd) {
     outstation_reader(

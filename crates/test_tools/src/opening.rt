@@ -1,7 +1,7 @@
 //! Cores to test on, and their end.
 ghost use Rattle.std.specs.Prelude.{◌≡◌, ◌<◌};
 
-use crate::asking::{Answer, Turn, has_text, step_of};
+use crate::asking::{Answer, Turn, has_text, step_of, steps_of, text_of};
 use crate::memory::{Outstation, read_client, read_outstation};
 use crate::peers::{MASTER, Source, Still};
 use gw_hub::Hub;
@@ -21,6 +21,21 @@ pub type Recorder = gw_readers::Recorder<Hub>;
 pub fn hub_on(alloc: Global, text: &str) -> Option<Hub> {
     let settings = Settings::read(alloc, text).ok()?;
     Hub::new(alloc, settings).ok()
+}
+
+/// What `Hub::run` answers the steps of these lines, as lines, on the settings that a text is; if they are steps and
+/// settings, where there is memory.
+pub fn replies_of_run(alloc: Global, settings: &str, lines: &str) -> Option<Vec<u8>> {
+    let steps = steps_of(alloc, lines)?;
+    let answers = run(alloc, Settings::read(alloc, settings).ok()?, steps)?;
+    text_of(alloc, answers.as_slice())
+}
+
+/// What `Hub::run` answers, where there is memory.
+fn run(alloc: Global, settings: Settings, steps: Vec<Step>) -> Option<Vec<Answer>> {
+    let (hub, answers) = Hub::run(alloc, settings, steps).ok()?;
+    drop(hub);
+    Some(answers)
 }
 
 /// A shared core, and the passes of its actors that no call has taken.

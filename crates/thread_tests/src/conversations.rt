@@ -1,4 +1,4 @@
-//! Tests of gw_shared and gw_record: steps that two actors make in turn are answered as those of a hub alone, and
+//! Tests of gw_shared and gw_record: steps that two actors make in turn are answered as `Hub::run` answers them, and
 //! recorded.
 ghost use Rattle.std.specs.Prelude.{◌≡◌};
 
@@ -9,7 +9,9 @@ use std::marker::Brand;
 use std::process::Abort;
 use std::sync::Wait;
 use std::sync::ledger::{Blank, Ledger};
-use test_tools::{Answer, Hub, Recorder, TestCore, Turn, hub_on, replies_of, steps_of, text_of};
+use test_tools::{
+    Answer, Hub, Recorder, TestCore, Turn, hub_on, replies_of_run, steps_of, text_of,
+};
 
 /// An unsolicited response that is repeated, and one that nobody asked for.
 const UNSOLICITED: &str = "open 0 0
@@ -278,7 +280,7 @@ fn converse<L: Ledger, R: Wait + Abort + AllocGlobal>(
     drop(recorder);
 }
 
-/// The answers are the replies, and those of a hub alone; and the calls are recorded.
+/// The answers are the replies, and those of a run; and the calls are recorded.
 fn check<R: Abort + AllocGlobal>(
     rt: &R,
     conversation: &Conversation,
@@ -294,16 +296,14 @@ fn check<R: Abort + AllocGlobal>(
     } = *conversation;
     let text = text_of(rt.alloc(), answers).expect(rt, "memory");
     same_list(rt, text.as_slice(), replies.as_bytes());
-    check_alone(rt, lines, replies);
+    check_run(rt, lines, replies);
     check_recorder(rt, recorder, recording, lines, answers);
 }
 
-/// A hub alone gives these replies to the steps of these lines.
-fn check_alone<R: Abort + AllocGlobal>(rt: &R, lines: &str, replies: &str) {
-    let mut hub = hub_on(rt.alloc(), DEFAULT_SETTINGS).expect(rt, "a hub");
-    let alone = replies_of(rt.alloc(), &mut hub, lines).expect(rt, "replies");
-    same_list(rt, alone.as_slice(), replies.as_bytes());
-    drop(hub);
+/// `Hub::run` gives these replies to the steps of these lines.
+fn check_run<R: Abort + AllocGlobal>(rt: &R, lines: &str, replies: &str) {
+    let given = replies_of_run(rt.alloc(), DEFAULT_SETTINGS, lines).expect(rt, "replies");
+    same_list(rt, given.as_slice(), replies.as_bytes());
 }
 
 /// The recorder has kept the calls that were made, but for those that it has forgotten.

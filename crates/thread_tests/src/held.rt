@@ -1,4 +1,4 @@
-//! A gate that holds workers until clients have taken an interrogation's termination.
+//! A gate that holds workers until clients have taken an interrogation's termination, and one of them until others are held.
 
 use std::rt::Clock;
 use std::sync::atomic::{AtomicBool, AtomicU64, Ordering};
@@ -12,7 +12,11 @@ const LOOKS: u16 = 10_000;
 /// The actors, by their positions.
 pub const OUTSTATION_0_READER: usize = 0;
 
+pub const OUTSTATION_0_WRITER: usize = 1;
+
 pub const OUTSTATION_1_READER: usize = 2;
+
+pub const OUTSTATION_1_WRITER: usize = 3;
 
 pub const CLIENT_0_READER: usize = 4;
 
@@ -27,7 +31,9 @@ const LAST: u64 = 1;
 
 /// Holds the reader of outstation 0 before its first step, the writer of client 0 before its first write, and the
 /// reader of client 1 behind the step of its last APDU, until client 1 has taken an interrogation's termination; and
-/// the reader of client 0 behind the step of its last APDU, until client 0 has taken one.
+/// the reader of client 0 behind the step of its last APDU, until client 0 has taken one. The reader of client 1 is held
+/// before each step until the first two are, so a lock that one of them keeps then is in its way; and until outstation 0
+/// is about to be asked, so there is a request each time.
 #[derive(Drop)]
 pub struct Held<'a, R> {
     pub rt: &'a R,
@@ -37,23 +43,72 @@ pub struct Held<'a, R> {
     /// How many APDUs of each client were stepped.
     pub stepped_0: AtomicU64,
     pub stepped_1: AtomicU64,
+    /// Whether the reader of outstation 0 came to its first step, and the writers of outstation 0 and of client 0 to their
+    /// first write.
+    pub is_decoded: AtomicBool,
+    pub is_asked: AtomicBool,
+    pub is_answered: AtomicBool,
     /// Whether one of them was held for too long.
     pub is_late: AtomicBool,
 }
 
+impl<'a, R> Held<'a, R> {
+    /// No worker has come to the gate.
+    pub fn new(rt: &'a R, is_served_0: &'a AtomicBool, is_served_1: &'a AtomicBool) -> Held<'a, R> {
+        Held {
+            rt,
+            is_served_0,
+            is_served_1,
+            stepped_0: AtomicU64::new(0),
+            stepped_1: AtomicU64::new(0),
+            is_decoded: AtomicBool::new(false),
+            is_asked: AtomicBool::new(false),
+            is_answered: AtomicBool::new(false),
+            is_late: AtomicBool::new(false),
+        }
+    }
+}
+
+impl<'a, R: Clock> Held<'a, R> {
+    /// A worker stands at its gate, which a flag tells, until client 1 is served; whether it is in time.
+    fn stands(&self, flag: &AtomicBool) -> bool {
+        flag.store(true, Ordering::SeqCst);
+        is_set(self.rt, self.is_served_1)
+    }
+
+    /// Waits until the others stand at their gates, and outstation 0 is asked; whether they do in time.
+    fn others_stand(&self) -> bool {
+        is_set(self.rt, &self.is_decoded)
+            && is_set(self.rt, &self.is_answered)
+            && is_set(self.rt, &self.is_asked)
+    }
+}
+
 impl<'a, R: Clock> Gate for Held<'a, R> {
     fn at(&self, actor: usize, place: Place) {
-        let awaited = match (place, actor) {
-            (Place::Decoded, OUTSTATION_0_READER) | (Place::BeforeWrite, CLIENT_0_WRITER) => {
-                self.is_served_1
-            }
+        // The test has failed: nobody is held any more.
+        if self.is_late.load(Ordering::SeqCst) {
+            return;
+        }
+        let is_in_time = match (place, actor) {
+            (Place::Decoded, OUTSTATION_0_READER) => self.stands(&self.is_decoded),
+            (Place::BeforeWrite, CLIENT_0_WRITER) => self.stands(&self.is_answered),
+            (Place::Decoded, CLIENT_1_READER) => self.others_stand(),
             (Place::Stepped, CLIENT_0_READER)
-                if self.stepped_0.fetch_add(1, Ordering::SeqCst) == LAST => self.is_served_0,
+                if self.stepped_0.fetch_add(1, Ordering::SeqCst) == LAST => {
+                is_set(self.rt, self.is_served_0)
+            }
             (Place::Stepped, CLIENT_1_READER)
-                if self.stepped_1.fetch_add(1, Ordering::SeqCst) == LAST => self.is_served_1,
+                if self.stepped_1.fetch_add(1, Ordering::SeqCst) == LAST => {
+                is_set(self.rt, self.is_served_1)
+            }
+            (Place::BeforeWrite, OUTSTATION_0_WRITER) => {
+                self.is_asked.store(true, Ordering::SeqCst);
+                return;
+            }
             _ => return,
         };
-        if !is_set(self.rt, awaited) {
+        if !is_in_time {
             self.is_late.store(true, Ordering::SeqCst);
         }
     }

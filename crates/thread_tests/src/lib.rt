@@ -16,6 +16,8 @@ mod loopback;
 #[cfg(test)]
 mod seen;
 #[cfg(test)]
+mod sent;
+#[cfg(test)]
 mod telling;
 #[cfg(test)]
 mod workers;

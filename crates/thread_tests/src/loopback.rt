@@ -44,11 +44,14 @@ const INTERROGATION: &[u8] = &[
     0x68, 0x0E, 0x00, 0x00, 0x00, 0x00, 0x64, 0x01, 0x06, 0x00, 0x01, 0x00, 0x00, 0x00, 0x00, 0x14,
 ];
 
-/// Its answer: the confirmation, the point, and the termination.
-const INTERROGATED: [u8; 48] = [
+/// Its answer: the confirmation, the binary input, the analog one, which wasn't reported yet, and the termination. (A
+/// counter is no part of it.)
+const INTERROGATED: [u8; 66] = [
     0x68, 0x0E, 0x00, 0x00, 0x02, 0x00, 0x64, 0x01, 0x07, 0x00, 0x01, 0x00, 0x00, 0x00, 0x00, 0x14, //
     0x68, 0x0E, 0x02, 0x00, 0x02, 0x00, 0x01, 0x01, 0x14, 0x00, 0x01, 0x00, 0x05, 0x10, 0x00, 0x01, //
-    0x68, 0x0E, 0x04, 0x00, 0x02, 0x00, 0x64, 0x01, 0x0A, 0x00, 0x01, 0x00, 0x00, 0x00, 0x00, 0x14,
+    0x68, 0x10, 0x04, 0x00, 0x02, 0x00, 0x0B, 0x01, 0x14, 0x00, 0x01, 0x00, 0x69, 0x10, 0x00, 0x00,
+    0x00, 0xC0, //
+    0x68, 0x0E, 0x06, 0x00, 0x02, 0x00, 0x64, 0x01, 0x0A, 0x00, 0x01, 0x00, 0x00, 0x00, 0x00, 0x14,
 ];
 
 #[test]
@@ -106,12 +109,12 @@ fn serve_one<R: Host + Abort + AllocGlobal>(
     let closed = serve(rt.alloc(), rt, settings, server, Some(1), &clock, seen).expect(
         rt, "memory",
     );
-    // Both come up and go, the poll and its answer, the client's two APDUs, and pumps for their four answers.
-    assert!(rt; closed.total >= 12, "{} calls", closed.total);
+    // Both come up and go, the poll and its answer, the client's two APDUs, and pumps for their five answers.
+    assert!(rt; closed.total >= 13, "{} calls", closed.total);
     true
 }
 
-/// Settings with an outstation at an address, and a point of it.
+/// Settings with an outstation at an address, and three points of it.
 fn settings_with<R: Abort + AllocGlobal>(rt: &R, outstation: SocketAddr) -> Settings {
     let text = format!(in rt.alloc();
         "[station]
@@ -127,6 +130,18 @@ outstation = 0
 kind = \"binary\"
 index = 5
 address = 4101
+
+[[point]]
+outstation = 0
+kind = \"analog\"
+index = 0
+address = 4201
+
+[[point]]
+outstation = 0
+kind = \"counter\"
+index = 0
+address = 4301
 "
     )
     .expect(rt, "memory");

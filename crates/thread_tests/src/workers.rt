@@ -8,6 +8,7 @@ use crate::held::{
     OUTSTATION_1_READER,
 };
 use crate::kept::{check_client, check_outstations, is_answered_first};
+use crate::sent::{Taker, check_sent};
 use crate::telling::entries_since;
 use std::marker::Brand;
 use std::process::Abort;
@@ -17,8 +18,8 @@ use std::sync::ledger::{Blank, Ledger};
 use std::sync::{Mutex, Wait};
 use std::thread::{self, Threads};
 use test_tools::{
-    Calls, Client, CloseFault, FROM_CLIENT, Hub, Line, MASTER, Outstation, Pass, Recorder, SOURCES,
-    Sent, Shared, Still, TWO_OUTSTATIONS, TestCore, Turn, WorkerEnd, client_writer, clock, hub_on,
+    Calls, Client, CloseFault, FROM_CLIENT, Hub, Line, MASTER, Pass, Recorder, SOURCES, Sent,
+    Shared, Still, TWO_OUTSTATIONS, TestCore, Turn, WorkerEnd, client_writer, clock, hub_on,
     outstation_writer, read_client, read_outstation,
 };
 
@@ -55,14 +56,21 @@ const WORKERS: &[(Role, WorkerEnd)] = &[
 
 /// What all workers share.
 #[derive(Drop)]
-struct Scene<'a, L: Ledger, R> {
+struct Scene<'a, 'b, L: Ledger, R: Wait> {
     rt: &'a R,
     shared: &'a Shared<L>,
     gate: &'a Held<'a, R>,
-    lines: &'a [Line<Outstation>],
-    taken: &'a [Taken],
+    lines: &'a [Line<Taker<'b, R>>],
+    taken: &'a AllTaken,
     /// How many workers have not ended.
     at_work: AtomicU64,
+}
+
+/// What the peers took.
+#[derive(Drop)]
+struct AllTaken {
+    outstations: [Mutex<Vec<u8>>; 2],
+    clients: [Taken; 2],
 }
 
 /// What a client took, and whether an interrogation's termination was among it.
@@ -107,7 +115,13 @@ fn work<L: Ledger + Send + Sync, R: Host>(rt: &R, blank: Blank, hub: Hub)
 {
     let mut core = TestCore::<L>::new(rt.alloc(), blank, hub, 9, ROOM).expect(rt, "a core");
     assert!(rt; core.answers_so(rt, UP_TURNS, UPS, "ok\nok\nok\nok\n"));
-    let taken = [Taken::nothing(rt), Taken::nothing(rt)];
+    let taken = AllTaken {
+        outstations: [
+            Mutex::new(Vec::new(rt.alloc())),
+            Mutex::new(Vec::new(rt.alloc())),
+        ],
+        clients: [Taken::nothing(rt), Taken::nothing(rt)],
+    };
     let TestCore { shared, passes } = core;
     let passes = serve(rt, &shared, &taken, passes);
     let passes = check_refusal(rt, &shared, passes);
@@ -120,21 +134,16 @@ fn work<L: Ledger + Send + Sync, R: Host>(rt: &R, blank: Blank, hub: Hub)
 fn serve<L: Ledger + Send + Sync, R: Host>(
     rt: &R,
     shared: &Shared<L>,
-    taken: &[Taken; 2],
+    taken: &AllTaken,
     passes: Vec<Pass<L>>,
 ) -> Vec<Pass<L>> {
-    let gate = Held {
-        rt,
-        is_served_0: &taken[0].has_ended,
-        is_served_1: &taken[1].has_ended,
-        stepped_0: AtomicU64::new(0),
-        stepped_1: AtomicU64::new(0),
-        is_late: AtomicBool::new(false),
-    };
+    let [client_0, client_1] = &taken.clients;
+    let gate = Held::new(rt, &client_0.has_ended, &client_1.has_ended);
     let [first, second] = SOURCES;
+    let [octets_0, octets_1] = &taken.outstations;
     let lines = [
-        Line::new(Outstation, MASTER, first.address),
-        Line::new(Outstation, MASTER, second.address),
+        Line::new(Taker::new(rt, octets_0), MASTER, first.address),
+        Line::new(Taker::new(rt, octets_1), MASTER, second.address),
     ];
     let scene = Scene {
         rt,
@@ -154,14 +163,14 @@ fn serve<L: Ledger + Send + Sync, R: Host>(
 
 /// Runs each worker in a thread of its own.
 fn perform_all<L: Ledger + Send + Sync, R: Host>(
-    scene: &Scene<'_, L, R>,
+    scene: &Scene<'_, '_, L, R>,
     passes: Vec<Pass<L>>,
 ) -> Vec<Pass<L>> {
     thread::map_vec(scene.rt, passes, &|pass| perform(scene, pass)).expect(scene.rt, "memory")
 }
 
 /// Works with a pass until the worker ends, as it is to end. The last one of the peers' workers asks the clock to end.
-fn perform<L: Ledger, R: Host>(scene: &Scene<'_, L, R>, pass: Pass<L>) -> Pass<L> {
+fn perform<L: Ledger, R: Host>(scene: &Scene<'_, '_, L, R>, pass: Pass<L>) -> Pass<L> {
     let (role, wanted) = *WORKERS.get(pass.actor()).expect(scene.rt, "a worker");
     let (pass, end) = perform_as(scene, role, pass);
     assert!(scene.rt; end == wanted);
@@ -176,7 +185,7 @@ fn perform<L: Ledger, R: Host>(scene: &Scene<'_, L, R>, pass: Pass<L>) -> Pass<L
 
 /// Works in a role.
 fn perform_as<L: Ledger, R: Host>(
-    scene: &Scene<'_, L, R>,
+    scene: &Scene<'_, '_, L, R>,
     role: Role,
     pass: Pass<L>,
 ) -> (Pass<L>, WorkerEnd) {
@@ -193,7 +202,7 @@ fn perform_as<L: Ledger, R: Host>(
 }
 
 fn read_source<L: Ledger, R: Host>(
-    scene: &Scene<'_, L, R>,
+    scene: &Scene<'_, '_, L, R>,
     outstation: u8,
     pass: Pass<L>,
 ) -> (Pass<L>, WorkerEnd) {
@@ -214,10 +223,10 @@ fn read_source<L: Ledger, R: Host>(
     )
 }
 
-fn line_of<'a, L: Ledger, R: Host>(
-    scene: &Scene<'a, L, R>,
+fn line_of<'a, 'b, L: Ledger, R: Host>(
+    scene: &Scene<'a, 'b, L, R>,
     outstation: u8,
-) -> &'a Line<Outstation> {
+) -> &'a Line<Taker<'b, R>> {
     scene
         .lines
         .get(usize::from(outstation))
@@ -225,7 +234,7 @@ fn line_of<'a, L: Ledger, R: Host>(
 }
 
 fn write_outstation<L: Ledger, R: Host>(
-    scene: &Scene<'_, L, R>,
+    scene: &Scene<'_, '_, L, R>,
     outstation: u8,
     pass: Pass<L>,
 ) -> (Pass<L>, WorkerEnd) {
@@ -242,12 +251,13 @@ fn write_outstation<L: Ledger, R: Host>(
 }
 
 fn write_client<L: Ledger, R: Host>(
-    scene: &Scene<'_, L, R>,
+    scene: &Scene<'_, '_, L, R>,
     client: u8,
     pass: Pass<L>,
 ) -> (Pass<L>, WorkerEnd) {
     let taken = scene
         .taken
+        .clients
         .get(usize::from(client))
         .expect(scene.rt, "a client");
     let mut writer = Client::new(scene.rt.alloc(), usize::MAX, &taken.has_ended);
@@ -288,12 +298,13 @@ fn refused<L: Ledger, R: Host>(rt: &R, shared: &Shared<L>, passes: Vec<Pass<L>>)
 }
 
 /// All calls were kept, and the peers' workers took and gave what was stepped.
-fn check<R: Host>(rt: &R, recorder: &Recorder, taken: &[Taken; 2], total: u64) {
+fn check<R: Host>(rt: &R, recorder: &Recorder, taken: &AllTaken, total: u64) {
     let entries = entries_since(rt, recorder, &[0; 9]);
     same(rt, &(entries.len() as u64), &total);
     assert!(rt; is_answered_first(entries));
     check_outstations(rt, entries);
-    let [first, second] = taken;
+    check_sent(rt, entries, &taken.outstations);
+    let [first, second] = &taken.clients;
     check_client(rt, entries, CLIENT_0_WRITER, &first.octets);
     check_client(rt, entries, CLIENT_1_WRITER, &second.octets);
 }
