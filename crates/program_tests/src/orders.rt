@@ -68,6 +68,16 @@ const THIRD_LET_GO: Settled = Settled {
     ..THIRD_LOST
 };
 
+const FOURTH_LET_GO: Settled = Settled {
+    order: 4,
+    ..THIRD_LET_GO
+};
+
+const FIFTH_LET_GO: Settled = Settled {
+    order: 5,
+    ..THIRD_LET_GO
+};
+
 /// What happens then; the orders that end by that without an answer; and how many of the two orders for the first
 /// outstation were done, failed, were let go, and wait still.
 #[derive(Clone, Copy)]
@@ -110,6 +120,30 @@ const COURSES: &[Course] = &[
     Course {
         lines: &["tick 5000", "pump 0 5000", "tick 20000"],
         settled: &[FIRST_UNANSWERED, SECOND_LET_GO, THIRD_LET_GO],
+        counts: [0, 1, 1, 0],
+    },
+    // The same with a second client, whose command came before the last one of the first, and whose interrogation's
+    // confirmation isn't acknowledged either. What one tick lets go is told client by client.
+    Course {
+        lines: &[
+            "tick 5000",
+            "open 1 5000",
+            "frame 1 5000 68 04 07 00 00 00",
+            "frame 1 5000 68 0E 00 00 00 00 2D 01 06 00 01 00 ED 13 00 01",
+            "frame 1 5000 68 0E 02 00 00 00 64 01 06 00 01 00 00 00 00 14",
+            "frame 0 5000 68 0E 06 00 00 00 2D 01 06 00 01 00 ED 13 00 00",
+            "pump 0 5000",
+            "pump 1 5000",
+            "pump 1 5000",
+            "tick 20000",
+        ],
+        settled: &[
+            FIRST_UNANSWERED,
+            SECOND_LET_GO,
+            THIRD_LET_GO,
+            FIFTH_LET_GO,
+            FOURTH_LET_GO,
+        ],
         counts: [0, 1, 1, 0],
     },
 ];

@@ -18,6 +18,8 @@ mod seen;
 #[cfg(test)]
 mod sent;
 #[cfg(test)]
+mod served;
+#[cfg(test)]
 mod telling;
 #[cfg(test)]
 mod workers;
