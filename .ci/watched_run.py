@@ -13,7 +13,7 @@ from cases import resources
 from judging import shown
 from peers import (
     ACTIVATION, CONFIRMATION, ELEMENTS, NOTE, PATIENCE, TERMINATION, WITNESSED, Centre, Difference, Outstation, Witness,
-    asdu, free_place, general, same_octets, spelled, under,
+    asdu, confirmation, free_place, general, response, same, same_octets, spelled, under, unsolicited,
 )
 from random_steps import RULES, Setup, random_control, random_outstation, random_point, random_points, table
 
@@ -25,6 +25,8 @@ ANSWER_LIMIT, EVENT_LIMIT = 5.0, 2.0
 QUEUE = 20_000
 # The honest control centre's control, and the seconds between its commands.
 OPERATED, OPERATE_EVERY = 9002, 0.2
+# Where the honest outstation's total is, which is at no address of two octets; its event, which says that it rolled over.
+TOTAL, TOTAL_EVENT = 70_000, bytes.fromhex("16 01 17 01 09 21 2A 00 00 00")
 # Threads and files beside those of its peers.
 THREADS, FILES = 16, 16
 
@@ -150,7 +152,7 @@ class House:
         self.process = self.log = self.witness = None
 
     def random_setup(self):
-        """Settings whose first outstation is the honest one, with a point, and a control that nobody else knows of; the
+        """Settings whose first outstation is the honest one, with two points, and a control that nobody else knows of; the
         others may have common addresses of their own."""
         rng, k = self.rng, self.rng.choice([8, 12, 100])
         self.recorder = rng.choice([1, 16, 1024])
@@ -170,9 +172,10 @@ class House:
         places = [(1 + rng.randrange(OUTSTATIONS), it) for it in ["single", "double", "setpoint"] for _ in range(2)]
         controls = [(*it, next(free[commons[it[0]]])) for it in places]
         texts += [random_point(rng, *it) for it in points] + [random_control(rng, *it) for it in controls]
+        texts.append(table("[[point]]", outstation=0, kind="counter", index=9, address=TOTAL))
         texts.append(table("[[point]]", outstation=0, kind="analog", index=9, address=WITNESSED, show="word"))
         texts.append(table("[[control]]", outstation=0, show="single", index=3, address=OPERATED))
-        points.append((0, "analog", 9, WITNESSED))
+        points += [(0, "counter", 9, TOTAL), (0, "analog", 9, WITNESSED)]
         return Setup("\n".join(texts), commons, k, 1 + OUTSTATIONS, points, controls, [])
 
     @property
@@ -195,6 +198,7 @@ class House:
         self.process = subprocess.Popen(words, text=True, errors="replace", **pipes)
         self.log = Log(self.process.stderr)
         link = self.outstations[0].accept()
+        self.tell_total(link)
         self.within(lambda: len(self.log.connected) > OUTSTATIONS, "all outstations are connected")
         self.centre = HonestCentre(self.port)
         self.centre.start()
@@ -204,6 +208,13 @@ class House:
         self.operator = Operator(self.centre, self.picture.answers)
         self.others = resources(self.process.pid)[1]
 
+    def tell_total(self, link):
+        """The honest outstation tells its total."""
+        event = unsolicited(0, TOTAL_EVENT)
+        link.send(event)
+        while (fragment := link.fragment()) != confirmation(event):
+            link.send(response(fragment[0] & 0x0F))
+
     def within(self, is_so, what):
         """Waits until something is so."""
         end = time.monotonic() + ANSWER_LIMIT
@@ -212,19 +223,28 @@ class House:
                 raise Difference(f"wanted within {ANSWER_LIMIT} s: {what}")
             time.sleep(0.02)
 
+    def asked(self, is_total):
+        """The places of the rows that an interrogation of all stations has to tell: totals, or all others, under each
+        common address in the order of the settings."""
+        commons = self.setup.commons
+        return [(common, address) for common in self.setup.known for outstation, kind, _, address in self.setup.points
+                if commons[outstation] == common and (kind == "counter") == is_total]
+
     def rows(self):
-        """What interrogations of all stations and of their counters are answered."""
-        for asked in (general, lambda cause: asdu(101, cause, 0, "05")):
+        """What interrogations of all stations and of their counters are answered: each row that is asked, and no other."""
+        for asked, is_total in ((general, False), (lambda cause: asdu(101, cause, 0, "05"), True)):
             self.centre.ask(under(65535, asked(ACTIVATION)))
-            left = len(self.setup.known)
+            left, places = len(self.setup.known), []
             while left:
                 octets = self.centre.asdu()
                 self.centre.acknowledge()
                 left -= octets[0] >= 100 and octets[2] == TERMINATION
                 if octets[2] in (20, 37):
+                    places.append(shown(octets)[0])
                     yield octets
                 elif octets[0] < 100:
                     self.picture.put(octets)
+            same("the rows of an answer", places, self.asked(is_total))
 
     def look(self):
         """Judges the process as it is now."""
