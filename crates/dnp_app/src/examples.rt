@@ -67,6 +67,10 @@ pub fn controls_by_example()
     ensures uns_of_a_response { confirm_of (0xF3 ∷ 0x81 ∷ 0x00 ∷ 0x00 ∷ []) ≡ Some (0xD3 ∷ 0x00 ∷ []) }
     ensures unsolicited_without_uns { confirm_of (0xE3 ∷ 0x82 ∷ 0x00 ∷ 0x00 ∷ []) ≡ Some (0xC3 ∷ 0x00 ∷ []) }
     ensures not_asked { confirm_of (0xD3 ∷ 0x82 ∷ 0x00 ∷ 0x00 ∷ []) ≡ None }
+    // A fragment that isn't the last one of its message asks like any other: the first, one between, and one that doesn't.
+    ensures first_asked { confirm_of (0xA3 ∷ 0x81 ∷ 0x00 ∷ 0x00 ∷ []) ≡ Some (0xC3 ∷ 0x00 ∷ []) }
+    ensures between_asked { confirm_of (0x2F ∷ 0x81 ∷ 0x00 ∷ 0x00 ∷ []) ≡ Some (0xCF ∷ 0x00 ∷ []) }
+    ensures first_not_asked { confirm_of (0x83 ∷ 0x81 ∷ 0x00 ∷ 0x00 ∷ []) ≡ None }
 {}
 
 /// Which command some fragments echo.

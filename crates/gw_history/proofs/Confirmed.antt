@@ -5,7 +5,6 @@ use Rattle.std.specs.Prelude.{slice_get}
 use Rattle.gw_model.specs.declared.control.Order.{Order}
 use Rattle.gw_map.specs.Settings.{Setup, station_clocks}
 use Rattle.dnp_app.specs.Response.{Fragment, is_unsolicited}
-use Rattle.dnp_app.specs.Control.{confirm_of}
 use Rattle.dnp_app.specs.declared.request.Request.{Request}
 use Rattle.dnp_master.specs.Master.{Master}
 use Rattle.dnp_master.specs.Fragments.{is_last, verdict_of}
@@ -26,19 +25,19 @@ use Rattle.gw_steps.specs.Steps.{Allowed, outcome, needs, can_be_counted, reply_
 use Rattle.gw_steps.specs.Runs.{Entry, state_after}
 use Rattle.gw_steps.proofs.Inversion.{answered, who_is_up}
 use Rattle.gw_history.specs.Accepted.{last_text, AskedRequest, is_in_sequence, is_in_place, is_answer, asked_of}
-use Rattle.gw_history.specs.Confirmations.{verdict_in, verdict_due_to_answer, verdict_due, confirmation_in, confirmation_due, without_order, Confirms, ConfirmsBy, Confirmations}
+use Rattle.gw_history.specs.Confirmations.{asked_confirmation, verdict_in, verdict_due_to_answer, verdict_due, confirmation_in, confirmation_due, without_order, Confirms, ConfirmsBy, Confirmations}
 use Rattle.gw_history.proofs.Masters.{MasterIs, MasterTied, verdict_is}
 use Rattle.gw_history.proofs.Tied.{Tied}
 use Rattle.gw_history.proofs.Places.{Place}
 
 answer_confirms : (asked : Option AskedRequest) (f : Fragment)
-    → confirmation_in (Some (verdict_due_to_answer asked f)) ≡ cond (is_answer asked f) (confirm_of f.octets) None
+    → confirmation_in (Some (verdict_due_to_answer asked f)) ≡ cond (is_answer asked f) (asked_confirmation f.octets) None
 answer_confirms None f = refl
 answer_confirms (Some a) f = go (is_in_sequence a f) (is_in_place a f) refl refl
   where
     go : (s p : Bool) → is_in_sequence a f ≡ s → is_in_place a f ≡ p
         → confirmation_in (Some (verdict_due_to_answer (Some a) f)) ≡ cond (is_answer (Some a) f)
-        (confirm_of f.octets) None
+        (asked_confirmation f.octets) None
     go true true es ep = rw (es, ep) refl
     go true false es ep = rw (es, ep) refl
     go false p es ep = rw es refl

@@ -1,7 +1,7 @@
 -- What ties an outstation's part of the state to its history, and how each step keeps it.
-use Rattle.std.proofs.Common.{◌≡◌, ℕ, ◌+◌, ◌%◌, ◌<◌, Bool, true, false, not, cond, eqb, List, ◌∷◌, Option, Some, None, Ok, refl, sym, ap, subst, ◌∙◌, arith, inl, inr}
+use Rattle.std.proofs.Common.{◌≡◌, ℕ, ◌+◌, ◌/◌, ◌%◌, ◌<◌, Bool, true, false, not, cond, eqb, List, [], ◌∷◌, Option, Some, None, Ok, refl, sym, ap, subst, ◌∙◌, arith, inl, inr}
 use Rattle.std.specs.Prelude.{slice_index, option_map}
-use Rattle.std.proofs.lemmas.Bool.{cases_Bool, ne_eqb, eq-eqb, true≢false}
+use Rattle.std.proofs.lemmas.Bool.{cases_Bool, eqb-true, eqb-false, ne_eqb, eq-eqb, le-leb, lt-leb, true≢false}
 use Rattle.std.proofs.lemmas.Slice.Eq.{bytes_eq-Decides}
 use Rattle.gw_model.specs.declared.control.Ended.{Ended}
 use Rattle.gw_model.specs.declared.control.Order.{Order}
@@ -29,7 +29,7 @@ use Rattle.gw_steps.specs.Steps.{reply_asking}
 use Rattle.gw_steps.specs.Runs.{Entry}
 use Rattle.gw_steps.proofs.Running.{entry}
 use Rattle.gw_history.specs.Accepted.{moment_after, last_text, AskedRequest, is_in_sequence, is_in_place, is_answer, asked_with, asked_at, poll_at, asked_of, is_accepted}
-use Rattle.gw_history.specs.Confirmations.{verdict_due_to_answer, verdict_due, without_order}
+use Rattle.gw_history.specs.Confirmations.{asked_confirmation, verdict_due_to_answer, verdict_due, without_order}
 
 -- ---- the tie
 
@@ -235,6 +235,23 @@ once_answered (Command Select order) false = tt
 once_answered (Command Operate order) done = tt
 once_answered (Command DirectOperate order) done = tt
 
+-- a fragment is given the confirmation that its octets ask for
+confirm_asked : (octets : List ℕ) → confirm_of octets ≡ asked_confirmation octets
+confirm_asked [] = refl
+confirm_asked (octet ∷ octets) = elim (cases_Bool (eqb ((octet / 32) % 2) 1)) [
+  | inl is ↦
+      (let set = eqb-true ((octet / 32) % 2) 1 is in
+      rw (is, le-leb 32 (octet % 64) (omega (arith, set))) (given (eqb ((octet / 16) % 2) 1) refl))
+  | inr isnt ↦
+      (let clear = eqb-false ((octet / 32) % 2) 1 isnt in
+      rw (isnt, lt-leb 32 (octet % 64) (omega (arith, clear))) refl)
+]
+  where
+    given : (uns : Bool) → eqb ((octet / 16) % 2) 1 ≡ uns
+        → Some ((192 + octet % 16 + cond uns 16 0) ∷ 0 ∷ []) ≡ Some ((192 + octet % 32) ∷ 0 ∷ [])
+    given true is = ap (λ (n : ℕ). Some (n ∷ 0 ∷ [])) (omega (arith, eqb-true ((octet / 16) % 2) 1 is))
+    given false isnt = ap (λ (n : ℕ). Some (n ∷ 0 ∷ [])) (omega (arith, eqb-false ((octet / 16) % 2) 1 isnt))
+
 pub verdict_to_answer : (exchange : Exchange) (asked : Option AskedRequest) (f : Fragment) → AwaitsAs exchange asked
     → without_order (verdict_of_answer exchange f) ≡ verdict_due_to_answer asked f
 verdict_to_answer Idle None f alike = refl
@@ -243,10 +260,10 @@ verdict_to_answer (Waiting w) None f alike = absurd alike
 verdict_to_answer (Waiting w) (Some a) f alike =
     let rightly : is_begun_rightly w.begun (control_in f).fir ≡ is_in_place a f =
     ap (λ (b : Bool). is_begun_rightly b (control_in f).fir) alike.begun in
-    rw (alike.expected, rightly) (go (is_in_sequence a f) (is_in_place a f))
+    rw (confirm_asked f.octets, alike.expected, rightly) (go (is_in_sequence a f) (is_in_place a f))
   where
     accepted : Option Ended → Verdict
-    accepted control = Accepted (confirm_of f.octets) (control_in f).fin control
+    accepted control = Accepted (asked_confirmation f.octets) (control_in f).fin control
 
     go : (s p : Bool)
         → without_order (cond s (cond p (accepted (ended_with w.task f)) (Ignored WrongFirst)) (Ignored WrongSequence))
@@ -266,15 +283,17 @@ pub verdict_is : (setup : Setup) (past : List Entry) (f : Fragment) (m : Master)
     → without_order (verdict_of m f) ≡ verdict_due setup past f
 verdict_is setup past f m tied = go (is_unsolicited f) refl
   where
-    repeated : (again : Bool) → without_order (cond again (Repeated (confirm_of f.octets))
-        (Accepted (confirm_of f.octets) false None))
-        ≡ cond again (Repeated (confirm_of f.octets)) (Accepted (confirm_of f.octets) false None)
+    asked : Option (List ℕ)
+    asked = asked_confirmation f.octets
+
+    repeated : (again : Bool) → without_order (cond again (Repeated asked) (Accepted asked false None))
+        ≡ cond again (Repeated asked) (Accepted asked false None)
     repeated true = refl
     repeated false = refl
 
     go : (b : Bool) → is_unsolicited f ≡ b → without_order (verdict_of m f) ≡ verdict_due setup past f
     go true e =
-        rw (e, unsolicited_verdict past f m tied.last) (repeated (is_last (last_text f.outstation past) f.octets))
+        rw (confirm_asked f.octets, e, unsolicited_verdict past f m tied.last) (repeated (is_last (last_text f.outstation past) f.octets))
     go false e = rw e (verdict_to_answer m.exchange (asked_of setup f.outstation past) f tied.awaits)
 
 -- whether a verdict accepts doesn't depend on an order

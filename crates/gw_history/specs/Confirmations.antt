@@ -1,7 +1,6 @@
 -- A confirmation is given only in the reply of the step that put a fragment's news into the log, or for a fragment
--- that is the last accepted one again.
-use Rattle.std.specs.Prelude.{◌≡◌, ℕ, false, ◌||◌, List, [], ◌∷◌, Option, Some, None, Result, Ok, Err, if◌then◌else◌}
-use Rattle.dnp_app.specs.Control.{confirm_of}
+-- that is the last accepted one again; and only where the fragment asks for one.
+use Rattle.std.specs.Prelude.{◌≡◌, ℕ, ◌+◌, ◌%◌, false, ◌||◌, nat_le, List, [], ◌∷◌, Option, Some, None, Result, Ok, Err, if◌then◌else◌}
 use Rattle.gw_map.specs.Settings.{Setup}
 use Rattle.dnp_app.specs.Response.{Fragment, is_unsolicited}
 use Rattle.dnp_master.specs.declared.verdict.Verdict.{Verdict}
@@ -15,6 +14,12 @@ use Rattle.gw_steps.specs.declared.step.Reply.TheVariants as replies
 use Rattle.gw_steps.specs.declared.step.StepFault.{StepFault}
 use Rattle.gw_steps.specs.Runs.{Entry}
 use Rattle.gw_history.specs.Accepted.{AskedRequest, is_in_sequence, is_in_place, asked_of, is_accepted, is_repeated}
+
+-- the confirmation that octets ask for, whatever else they say: where bit 5 (CON, 20 hex) of the first is set, C0 hex with
+-- its bits 0 to 3 (sequence number) and 4 (UNS, 10 hex), and function 0
+abbrev pub asked_confirmation : List ℕ → Option (List ℕ)
+asked_confirmation [] = None
+asked_confirmation (octet ∷ octets) = if nat_le 32 (octet % 64) then Some ((192 + octet % 32) ∷ 0 ∷ []) else None
 
 -- a verdict, but for the order that ends with the fragment
 abbrev pub without_order : Verdict → Verdict
@@ -45,7 +50,7 @@ abbrev pub verdict_due_to_answer : Option AskedRequest → Fragment → Verdict
 verdict_due_to_answer None f = verdicts.Ignored NoRequest
 verdict_due_to_answer (Some a) f =
     if is_in_sequence a f then
-    (if is_in_place a f then verdicts.Accepted (confirm_of f.octets) (control_in f).fin None
+    (if is_in_place a f then verdicts.Accepted (asked_confirmation f.octets) (control_in f).fin None
     else verdicts.Ignored WrongFirst)
     else verdicts.Ignored WrongSequence
 
@@ -53,8 +58,8 @@ verdict_due_to_answer (Some a) f =
 abbrev pub verdict_due : Setup → List Entry → Fragment → Verdict
 verdict_due setup past f =
     if is_unsolicited f then
-    (if is_repeated past f then verdicts.Repeated (confirm_of f.octets)
-    else verdicts.Accepted (confirm_of f.octets) false None)
+    (if is_repeated past f then verdicts.Repeated (asked_confirmation f.octets)
+    else verdicts.Accepted (asked_confirmation f.octets) false None)
     else verdict_due_to_answer (asked_of setup f.outstation past) f
 
 -- of other steps nothing is said
@@ -65,7 +70,7 @@ verdict_after setup past _ = None
 -- the confirmation that a step is due: that of an accepted or repeated fragment which asks for one
 abbrev pub confirmation_due : Setup → List Entry → Step → Option (List ℕ)
 confirmation_due setup past (steps.Fragment f moment) =
-    if is_accepted setup past f || is_repeated past f then confirm_of f.octets else None
+    if is_accepted setup past f || is_repeated past f then asked_confirmation f.octets else None
 confirmation_due setup past _ = None
 
 -- a reply says of a fragment what is to be said, and gives the confirmation that is due, and no other

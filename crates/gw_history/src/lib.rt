@@ -5,4 +5,4 @@
 
 mod examples;
 
-pub use examples::lives_by_example;
+pub use examples::{confirmations_by_example, lives_by_example};
