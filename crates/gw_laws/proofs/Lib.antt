@@ -14,6 +14,7 @@ pub mod KnownTurns
 pub mod KnownWaits
 pub mod News
 pub mod Line
+pub mod Answered
 pub mod Held
 pub mod Frames
 pub mod Mirror

@@ -48,7 +48,7 @@ use Rattle.gw_steps.specs.Said.{ApduMeaning}
 use Rattle.gw_history.specs.Life.{Brought, Taking, Turn, Idle, Takes, PutsOut, Ends, session_with, session, turns_in}
 use Rattle.gw_history.proofs.Lives.{Becomes, Came, IsOperating, Lives, lives_all}
 use Rattle.gw_laws.specs.Fates.{spontaneous_of, Element, is_queued, items_of, fates, fates_with_put_out}
-use Rattle.gw_laws.specs.Interrogations.{Interrogation, parts_in, is_pending, answer_told, interrogation_telling, IsAnsweredInOrder, begun, interrogation, AnswersInterrogation}
+use Rattle.gw_laws.specs.Interrogations.{Interrogation, parts_in, is_pending, answer_told, interrogation_telling, IsAnsweredInOrder, begun, interrogation}
 use Rattle.gw_laws.specs.Line.{answers_to, told_of, told_outcomes, since_of, left_of, SaysFirst, owed, line, KeepsLine}
 use Rattle.gw_laws.proofs.Offered.{IsOffered, offered_is}
 use Rattle.gw_laws.proofs.Fronts.{says_front, news_go, parts_go}
@@ -584,13 +584,17 @@ keeps_line setup some (PutsOut said ∷ ts) k lives =
     (offered_is gave.moment lives.0 gave.sending gave.first) gave.can gave.all
     (news_tied setup some ts lives.0 lives.1) (line_tied setup some ts lives.0 lives.1))
 
-answered_so : (setup : Setup) (s : Option (List Turn)) (k : Client) → LineTied setup s k
-    → IfSome (interrogation setup (turns_in s)) IsAnsweredInOrder
-answered_so setup None k tied = tt
-answered_so setup (Some hs) k tied = by (interrogation setup hs) (owed setup hs) (length (fates setup.station hs)) tied
+-- the answer to an interrogation, as it is in the line, is put out in order
+abbrev pub IsToldInOrder : Interrogation → Type 0
+IsToldInOrder q = IsAnsweredInOrder (answer_told q) q
+
+told_so : (setup : Setup) (s : Option (List Turn)) (k : Client) → LineTied setup s k
+    → IfSome (interrogation setup (turns_in s)) IsToldInOrder
+told_so setup None k tied = tt
+told_so setup (Some hs) k tied = by (interrogation setup hs) (owed setup hs) (length (fates setup.station hs)) tied
   where
     by : (q : Option Interrogation) (owes : List AsduAnswer) (n : ℕ) → LineIs owes q n k
-        → IfSome q IsAnsweredInOrder
+        → IfSome q IsToldInOrder
     by None owes n is = tt
     by (Some q) owes n is = record {
       rest = k.rest;
@@ -598,7 +602,7 @@ answered_so setup (Some hs) k tied = by (interrogation setup hs) (owed setup hs)
       whole = λ over. nothing_asked k.rest (sym (pending_told owes (Some q) n k is) ∙ over);
     }
 
-pub answers_interrogation : (setup : Setup) → 0 < setup.station.queue
-    → (ts : List Turn) (k : Client) → Lives setup ts k → AnswersInterrogation setup ts
-answers_interrogation setup some ts k lives = answered_so setup (session ts) k
-    (line_tied setup some ts k lives)
+pub told_in_order : (setup : Setup) → 0 < setup.station.queue
+    → (ts : List Turn) (k : Client) → Lives setup ts k
+    → IfSome (interrogation setup (turns_in (session ts))) IsToldInOrder
+told_in_order setup some ts k lives = told_so setup (session ts) k (line_tied setup some ts k lives)

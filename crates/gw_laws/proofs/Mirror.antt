@@ -465,7 +465,7 @@ session_mirrored setup fit log (Idle brought ∷ ts) k lives logged =
     (comes setup logged.0 brought (session ts) lives.0 (line_tied setup fit.queue ts lives.0 lives.1)
     (session_mirrored setup fit logged.0 ts lives.0 lives.1 logged.2))
 session_mirrored setup fit log (Takes a taking ∷ ts) k lives logged =
-    takes setup log taking a (session ts) lives.0 (is_single-true setup.rows setup.controls fit.addresses) logged.0
+    takes setup log taking a (session ts) lives.0 (is_single-true setup.rows setup.controls fit.addresses) logged.0.same
     (line_tied setup fit.queue ts lives.0 lives.1)
     (session_mirrored setup fit log ts lives.0 lives.1 logged.1)
 session_mirrored setup fit log (PutsOut said ∷ ts) k lives logged =
@@ -512,4 +512,4 @@ mirrors setup past place c within = by (client_at setup c past) (place.known.liv
     by (Some k) lives =
         tells_mirror setup (log_of setup past) (session (life setup c past))
         (session_mirrored setup place.given.settings (log_of setup past) (life setup c past) k lives
-        (logged setup c past))
+        (logged setup c past place.given))

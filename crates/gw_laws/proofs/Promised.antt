@@ -5,12 +5,12 @@ use Rattle.gw_steps.specs.Runs.{Entry, AtEach}
 use Rattle.gw_history.specs.Premises.{IsSoundRun}
 use Rattle.gw_history.proofs.Confirmed.{confirmed}
 use Rattle.gw_history.proofs.Places.{Place, places, of_each}
-use Rattle.gw_laws.specs.Interrogations.{AnswersInterrogation}
 use Rattle.gw_laws.specs.Line.{KeepsLine}
 use Rattle.gw_laws.specs.Numbers.{HasRightNumbers}
 use Rattle.gw_laws.specs.Promises.{Promises}
 use Rattle.gw_laws.proofs.News.{tells_news}
-use Rattle.gw_laws.proofs.Line.{keeps_line, answers_interrogation}
+use Rattle.gw_laws.proofs.Line.{keeps_line}
+use Rattle.gw_laws.proofs.Answered.{answers_interrogations}
 use Rattle.gw_laws.proofs.Mirror.{mirrors}
 use Rattle.gw_laws.proofs.Numbers.{right_numbers}
 use Rattle.gw_laws.proofs.Frames.{judges_frames}
@@ -19,8 +19,7 @@ use Rattle.gw_laws.proofs.Apdus.{reads_apdus}
 promised : (setup : Setup) (past : List Entry) → Place setup past → Promises setup past
 promised setup past place = record {
   news = tells_news setup past place;
-  interrogations = of_each setup (AnswersInterrogation setup)
-      (answers_interrogation setup place.given.settings.queue) past place;
+  interrogations = answers_interrogations setup past place;
   line = of_each setup (KeepsLine setup)
       (keeps_line setup place.given.settings.queue) past place;
   mirror = mirrors setup past place;

@@ -1,8 +1,12 @@
 -- Interrogations (IEC 60870-5-101, 7.4.5 and 7.4.8): what was put out of the answer to the interrogation of a session
 -- is the front of it, and all of it once its last termination is out: for each common address that it asks the
--- confirmation, what the picture showed at its act, and the termination.
-use Rattle.std.specs.Prelude.{◌≡◌, ℕ, ◌==◌, Bool, true, false, not, nat_lt, ◌&&◌, ◌||◌, List, [], ◌∷◌, ◌++◌, length, map, filter, Option, Some, None, option_map, IfSome, if◌then◌else◌}
+-- confirmation, of its rows those that show totals (counter interrogation) or all others (station interrogation), each as
+-- the picture showed it at the act, in the order of the rows, and the termination.
+use Rattle.std.specs.Prelude.{◌≡◌, ℕ, ◌==◌, Bool, true, false, not, nat_lt, ◌&&◌, ◌||◌, List, [], ◌∷◌, ◌++◌, length, map, filter, zip, flat_map, Option, Some, None, option_map, IfSome, if◌then◌else◌}
 use Rattle.gw_model.specs.declared.observation.Observation.{Observation}
+use Rattle.gw_entries.specs.declared.row.Row.{Row}
+use Rattle.gw_entries.specs.declared.row.Show.{Show}
+use Rattle.gw_entries.specs.declared.row.Show.TheVariants as shows
 use Rattle.gw_map.specs.Settings.{Setup}
 use Rattle.iec_apci.specs.declared.apdu.Apdu.TheVariants.{I}
 use Rattle.iec_command.specs.declared.command.Command.{Command}
@@ -97,16 +101,56 @@ interrogation setup (PutsOut (IFormat ns nr meant) ∷ ts) =
     option_map (interrogation_telling meant) (interrogation setup ts)
 interrogation setup (_ ∷ ts) = interrogation setup ts
 
+-- ---- the answer that is due, apart from the code's words for it
+
+abbrev pub shows_total : Show → Bool
+shows_total shows.Total = true
+shows_total _ = false
+
+-- the rows that an action asks for, by what they show: the general request of counters (type 101, QCC 5) the totals, the
+-- interrogation of the station (type 100, QOI 20) all others
+abbrev pub is_due : Action → Show → Bool
+is_due (actions.CounterInterrogation qualifier) show = qualifier == 5 && shows_total show
+is_due (actions.Interrogation qualifier) show = qualifier == 20 && not (shows_total show)
+is_due _ show = false
+
+-- what a picture shows of those with a common address, in the order of the rows
+abbrev pub rows_due : Action → List Row → List Observation → ℕ → List Observation
+rows_due action rows picture common =
+    map (λ (shown : Row × Observation). shown.1)
+    (filter (λ (shown : Row × Observation). shown.0.common_address == common && is_due action shown.0.show)
+    (zip rows picture))
+
+-- they are told with cause 37 (requested by general counter request), or 20 (interrogated by station interrogation)
+abbrev pub cause_due : Action → ℕ
+cause_due (actions.CounterInterrogation qualifier) = 37
+cause_due _ = 20
+
+-- under a common address: the confirmation (7), these rows, and the termination (10)
+abbrev pub part_due : Command → ℕ → ℕ → OwnAsdu
+part_due c common cause =
+    outgoing.Command (record c { cause = cause; negative = false; common_address = common })
+
+abbrev pub section_due : List Row → Command → List Observation → ℕ → List OwnAsdu
+section_due rows c picture common =
+    part_due c common 7
+    ∷ (map (outgoing.Observation (cause_due c.action) 0) (rows_due c.action rows picture common)
+    ++ part_due c common 10 ∷ [])
+
+abbrev pub answer_due : List Row → Interrogation → List OwnAsdu
+answer_due rows q = flat_map (section_due rows q.command q.rows) q.asked
+
 -- ---- the law
 
--- what was put out is the front of its answer, and all of it once it isn't pending
-pub record IsAnsweredInOrder (q : Interrogation) : Type 0 where
+-- what was put out is the front of an answer, and all of it once the interrogation isn't pending
+pub record IsAnsweredInOrder (answer : List OwnAsdu) (q : Interrogation) : Type 0 where
   pub rest : List OwnAsdu
-  pub in_order : q.said ++ rest ≡ answer_told q
+  pub in_order : q.said ++ rest ≡ answer
   pub whole : is_pending (Some q) ≡ false → rest ≡ []
 
 abbrev pub AnswersInterrogation : Setup → List Turn → Type 0
-AnswersInterrogation setup ts = IfSome (interrogation setup (turns_in (session ts))) IsAnsweredInOrder
+AnswersInterrogation setup ts =
+    IfSome (interrogation setup (turns_in (session ts))) (λ q. IsAnsweredInOrder (answer_due setup.rows q) q)
 
 abbrev pub Interrogations : Setup → List Entry → Type 0
 Interrogations setup past = OfEachLife (AnswersInterrogation setup) setup past

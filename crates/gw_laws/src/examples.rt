@@ -1,9 +1,12 @@
 //! Worked runs, told by the definitions.
-ghost use Rattle.std.specs.Prelude.{◌≡◌, [], ◌∷◌, ◌++◌, map, true, false, Some, None};
+ghost use Rattle.std.specs.Prelude.{◌≡◌, [], ◌∷◌, ◌++◌, map, take, true, false, Some, None};
 ghost use Rattle.gw_model.specs.Keys.{object_of};
+ghost use Rattle.gw_model.specs.declared.observation.Value.TheVariants.{Total};
+ghost use Rattle.iec_command.specs.declared.command.Action.TheVariants.{CounterInterrogation, Interrogation};
 ghost use Rattle.gw_judge.specs.Example.{of_two, setup as with_controls};
 ghost use Rattle.gw_answers.specs.declared.outgoing.AsduAnswer.TheVariants.{Made};
 ghost use Rattle.gw_answers.specs.declared.outgoing.OwnAsdu.TheVariants.{Command as Commanded, Observation as Told};
+ghost use Rattle.gw_answers.specs.Example.{invalid, picture, shown};
 ghost use Rattle.gw_answers.specs.Outgoing.{command_with, under};
 ghost use Rattle.gw_station.specs.declared.sending.Sending.TheVariants.{News, Part};
 ghost use Rattle.gw_station.specs.Example.{switched_on};
@@ -11,7 +14,7 @@ ghost use Rattle.gw_steps.specs.Example.{setup};
 ghost use Rattle.gw_history.specs.Life.{life};
 ghost use Rattle.gw_history.specs.Example.{pumped};
 ghost use Rattle.gw_laws.specs.Numbers.{sent, taken, last_receive_number};
-ghost use Rattle.gw_laws.specs.Interrogations.{interrogation, is_pending};
+ghost use Rattle.gw_laws.specs.Interrogations.{interrogation, is_pending, rows_due};
 ghost use Rattle.gw_laws.specs.Frames.{held};
 ghost use Rattle.gw_laws.specs.Line.{line, owed};
 ghost use Rattle.gw_laws.specs.Mirror.{asked_in, known_of, last_value, told};
@@ -40,6 +43,17 @@ pub fn promises_by_example()
     ensures binary { last_value (object_of switched_on) (known_after 2) ≡ Some (known_of switched_on) }
     ensures analog { map (λ n. last_value (object_of analog_read) (known_after n)) (2 ∷ 5 ∷ 6 ∷ [])
         ≡ Some (known_of analog_read) ∷ Some (known_of analog_read) ∷ Some (known_of analog_read) ∷ [] }
+{}
+
+/// Which rows answer an interrogation: of single-point 4101, scaled value 4201 and integrated total 4301 of station 1.
+pub fn rows_by_example()
+    ensures totals { map (rows_due (CounterInterrogation 5) with_controls.rows picture) (1 ∷ 2 ∷ [])
+        ≡ (shown 4301 (Total 0) (invalid false) ∷ []) ∷ [] ∷ [] }
+    ensures others { map (rows_due (Interrogation 20) with_controls.rows picture) (1 ∷ 2 ∷ [])
+        ≡ take 2 picture ∷ [] ∷ [] }
+    // A group of counters, and one of the station's points.
+    ensures group_of_totals { rows_due (CounterInterrogation 1) with_controls.rows picture 1 ≡ [] }
+    ensures group { rows_due (Interrogation 21) with_controls.rows picture 1 ≡ [] }
 {}
 
 /// A client interrogates all stations, which are two common addresses.

@@ -11,5 +11,7 @@ mod laws;
 pub use connection_examples::{
     closes_by_example, faults_by_example, pumps_by_example, receipts_by_example, tests_by_example,
 };
-pub use examples::{all_stations_by_example, orders_by_example, promises_by_example};
+pub use examples::{
+    all_stations_by_example, orders_by_example, promises_by_example, rows_by_example,
+};
 pub use laws::{connections_are_kept, runs_keep_promises};
