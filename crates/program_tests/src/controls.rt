@@ -5,12 +5,35 @@ use gw_control::Controls;
 use gw_hub::{Hub, Machine};
 use gw_map::{DEFAULT_SETTINGS, Settings};
 use std::alloc::Global;
+use std::fmt::Write;
 use std::process::Abort;
 use std::test::Fail;
 
+/// Settings with as many controls as there may be.
+fn settings_of_all(alloc: Global) -> Result<Settings, Fail> {
+    let mut text = String::new(alloc);
+    write!(
+        text,
+        "[station]\ncommon_address = 1\n[[outstation]]\naddress = 1\n"
+    )?;
+    for n in 1..20_001_u32 {
+        write_control(&mut text, n)?;
+    }
+    Ok(Settings::read(alloc, text.as_str())?)
+}
+
+/// Adds a control with this index and address.
+fn write_control(text: &mut String, n: u32) -> Result<(), Fail> {
+    write!(
+        text,
+        "[[control]]\noutstation = 0\nshow = \"single\"\nindex = {n}\naddress = {n}\n"
+    )?;
+    Ok(())
+}
+
 /// How many orders a copy of new controls has taken.
 fn orders_of_a_copy(alloc: Global) -> Result<u64, Fail> {
-    let settings = Settings::read(alloc, DEFAULT_SETTINGS)?;
+    let settings = settings_of_all(alloc)?;
     let controls = Controls::new(alloc, &settings)?;
     Ok(controls.copy()?.ordered())
 }

@@ -14,6 +14,8 @@ mod kept;
 #[cfg(test)]
 mod loopback;
 #[cfg(test)]
+mod recorder;
+#[cfg(test)]
 mod seen;
 #[cfg(test)]
 mod sent;
