@@ -30,7 +30,10 @@ use std::thread::Threads;
 const USAGE: u8 = 2;
 
 fn main(rt: HostRuntime) -> io::Result<ExitCode> {
-    let status = program(&rt, &rt)?;
+    let status = match program(&rt, &rt) {
+        Err(error) if error.kind() == io::ErrorKind::OutOfMemory => refuse_for(&rt, "memory")?,
+        told => told?,
+    };
     Ok(ExitCode::from(status))
 }
 
