@@ -128,24 +128,34 @@ impl Hub {
 
     /// Makes steps one after the other on a new hub; gives it with a reply for each of them.
     ///
-    /// These are a run of the step relation, and at each place of the list these promises hold:
+    /// For every interleaving of DNP3 fragments, losses, 104 frames and sends, the observations meant by spontaneous ASDUs put
+    /// out since a client's STARTDT, followed by those queued, are the point map's image of the news since then, in order, less
+    /// counted overflows; each interrogation's ASDUs mean the picture at its moment; each DNP3 control request means its
+    /// command.
+    ///
+    /// News are the images of events that outstations reported, of static values that differ from what the picture showed,
+    /// and of the points of an outstation that was lost. An APDU is put out by the reply to a pump for its client.
+    ///
+    /// The steps are a run of the step relation, and at each place of the list these promises hold:
     /// - `news`: the picture is that of the log, and for each client's session the observations meant by the
     ///   spontaneous ASDUs put out since its STARTDT, followed by those queued, are the news since then, in order, less
     ///   those dropped. I formats are put out in a session alone, and carry what a station may say.
     /// - `interrogations`: what was put out of the answer to a client's interrogation is the front of it, and all of it
-    ///   once its termination is out: the confirmation, what the picture showed at its act, and the termination.
+    ///   once its last termination is out: for each common address that was asked, the confirmation, what the picture
+    ///   showed at the act of its rows (those of totals by a counter interrogation, all others by a station
+    ///   interrogation), and the termination. 65535 asks all known addresses, in the order of their first outstation.
     /// - `line`: each I format put out to a client is the front of what waited for it: answers to its ASDUs, news that
     ///   came before the interrogation that is pending, the rest of its answer, and later news. An answer goes alone;
     ///   of news, and of rows, as many go together as one ASDU carries.
     /// - `mirror`: once a station interrogation was confirmed, and while no news since its act was dropped, the
-    ///   observations put out from then on and those that wait have as their last values what the picture shows, but
-    ///   for totals.
+    ///   observations put out from then on and those that wait have as their last values what the picture shows of the
+    ///   rows under the common addresses that were asked, but for totals.
     /// - `numbers`: the nth I format put out since a client came up, counted from 0, has N(S) n modulo 32,768, each
     ///   N(R) is the number of I formats taken, modulo 32,768, and at most k lie beyond the client's last N(R).
     /// - `frames`: an I or S format is taken where it is right, and closes the connection where it isn't.
     /// - `apdus`: what a pump puts out reads as one APDU.
-    /// - `confirmations`: a confirmation was given to an outstation only with the news put into the log, or for a
-    ///   repeated fragment.
+    /// - `confirmations`: a confirmation was given to an outstation only for a fragment that asks for one, with its news
+    ///   put into the log, or for a repeated one.
     /// - `meant`: each fragment reports what its octets mean, by the definition of responses.
     /// - `sound`: the picture shows each row of the point map by a value of its type that an ASDU can carry, there is a
     ///   master for each outstation, what waits for a client can be sent and is no more than may wait, and each order
