@@ -7,7 +7,9 @@ from dataclasses import dataclass, field, replace
 from pathlib import Path
 
 ROOT = Path(__file__).resolve().parent.parent
-PROGRAM = ROOT / "crates/gw_program/out/gw_program"
+# The program: the proved one, or another that the environment names.
+NAMED = os.environ.get("GATEWAY_PROGRAM")
+PROGRAM = Path(NAMED or ROOT / "crates/gw_program/out/gw_program")
 ESCAPES = {b"t": b"\t", b"r": b"\r", b"0": b"\0", b"\\": b"\\", b"c": b""}
 
 
@@ -107,8 +109,9 @@ def first_difference(found, wanted):
 
 
 def build():
-    """Proves and builds the program, unless it stands."""
-    subprocess.run(["./gateway", "translate"], cwd=ROOT, stdin=subprocess.DEVNULL, check=True)
+    """Proves and builds the program, unless it stands, or another one is named."""
+    if not NAMED:
+        subprocess.run(["./gateway", "--prove"], cwd=ROOT, stdin=subprocess.DEVNULL, check=True)
 
 
 def resources(pid):

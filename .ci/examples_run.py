@@ -6,7 +6,8 @@ an empty line or the next command. What varies from run to run is masked on both
 gives to who connects, digests, counts of steps. Lines that begin with a time may come in another order, since threads
 write them. A last line `..` stands for whatever else is written: such a command goes on beside those below it, to the
 next heading. Commands run in a folder of their own, which has links to all that is here. The environment variable
-GATEWAY has what is run for `./gateway`, by an absolute path. Ends with status 1 where anything differs.
+GATEWAY has what is run for `./gateway`, and for `./gateway --unproved`, by an absolute path. The line by which `./gateway` says
+that its program isn't proved is passed over. Ends with status 1 where anything differs.
 """
 import difflib
 import errno
@@ -30,6 +31,7 @@ VARIES = re.compile(r"\d{4}-\d\d-\d\d|\d\d:\d\d:\d\d(\.\d{3})?|(?<=127\.0\.0\.1:
 # first line of one that goes on.
 LIMIT, PAUSE = 15, 1
 PORTS = (2404, 8080, 20000)
+UNPROVED = "gateway: this program isn't proved"
 
 
 class Command:
@@ -41,7 +43,10 @@ class Command:
         self.wanted = [VARIES.sub("~", line) for line in (wanted[:-1] if self.goes_on else wanted)]
 
     def start(self, folder):
-        words = re.sub(r"(?<!\S)\./gateway(?!\S)", lambda _: os.environ.get("GATEWAY", "./gateway"), self.words)
+        named = os.environ.get("GATEWAY", "./gateway")
+        words = self.words
+        if named != "./gateway":
+            words = re.sub(r"(?<!\S)\./gateway( --unproved)?(?!\S)", lambda _: named, words)
         self.output = tempfile.NamedTemporaryFile()
         self.process = subprocess.Popen(["bash", "-c", words], cwd=folder, stdin=subprocess.DEVNULL, stdout=self.output,
                                         stderr=subprocess.STDOUT, start_new_session=True)
@@ -68,7 +73,7 @@ class Command:
                     self.process.wait(2)
 
     def differs(self):
-        lines = self.written().splitlines()
+        lines = [it for it in self.written().splitlines() if not it.startswith(UNPROVED)]
         got = [VARIES.sub("~", line) for line in (lines[: len(self.wanted)] if self.goes_on else lines)]
         has_times = any(re.match("~", line) for line in self.wanted)
         if got == self.wanted or has_times and sorted(got) == sorted(self.wanted):
