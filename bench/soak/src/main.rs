@@ -25,7 +25,10 @@ mod timers;
 mod verdict;
 mod watch;
 
-use std::process::ExitCode;
+use std::process::{Command, ExitCode};
+
+/// The program that is taken where none is named.
+const PROGRAM: &str = concat!(env!("CARGO_MANIFEST_DIR"), "/../../crates/gw_program/out/gw_program");
 
 const HELP: &str = "soak WHAT [OPTIONS]
 WHAT is `soak`, `day`, `outstation` or `client`: peers that make trouble, the same for a day by a clock that is many
@@ -61,7 +64,7 @@ pub struct Options {
 
 fn defaults(is_day: bool, counts: bool) -> Options {
     Options {
-        gateway: vec![concat!(env!("CARGO_MANIFEST_DIR"), "/../../crates/gw_program/out/gw_program").to_string()],
+        gateway: vec![PROGRAM.to_string()],
         seconds: if is_day { 0 } else { 60 },
         seed: 1,
         queue: if is_day { 2000 } else { 200 },
@@ -73,6 +76,14 @@ fn defaults(is_day: bool, counts: bool) -> Options {
         counts,
         goal: None,
     }
+}
+
+/// Whether the program that is taken where none is named is proved, and of the sources as they are.
+fn is_fresh() -> bool {
+    let root = concat!(env!("CARGO_MANIFEST_DIR"), "/../..");
+    let asked = "root=$1; . \"$1/tools/freshness.sh\"; is_fresh \"$2\"";
+    let status = Command::new("bash").args(["-c", asked, "bash", root, PROGRAM]).status();
+    status.is_ok_and(|it| it.success())
 }
 
 fn options(what: &str, words: &mut dyn Iterator<Item = String>) -> Option<Options> {
@@ -102,7 +113,12 @@ fn options(what: &str, words: &mut dyn Iterator<Item = String>) -> Option<Option
 fn main() -> ExitCode {
     let mut words = std::env::args().skip(1);
     let what = words.next().unwrap_or_default();
-    let result = match (what.as_str(), options(&what, &mut words)) {
+    let options = options(&what, &mut words);
+    if options.as_ref().is_some_and(|it| it.gateway == [PROGRAM]) && !is_fresh() {
+        eprintln!("soak: no proved program of these sources stands: ./gateway --prove proves and builds it");
+        return ExitCode::FAILURE;
+    }
+    let result = match (what.as_str(), options) {
         ("soak", Some(options)) => soak::run(&options),
         ("day", Some(options)) => soak::day(&options),
         ("outstation", Some(options)) => against::outstation(&options),
