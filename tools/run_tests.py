@@ -83,11 +83,12 @@ class Tally:
         self.passed, self.failed = 0, 0
 
     def take(self, part, passed, seconds, lines):
-        """Tells what came of one: its last line, or the end of what it wrote where it failed."""
+        """Tells what came of one: its last line that counts, or its last one, or the end of what it wrote where it failed."""
         self.passed += passed
         self.failed += not passed
-        last = next((it for it in reversed(lines) if it.strip()), "")
-        last = last.removeprefix(f"{part.name}: ")
+        written = [it for it in reversed(lines) if it.strip()] or [""]
+        last = next((it for it in written if " passed" in it), written[0])
+        last = last.removeprefix(f"{part.name}: ").removeprefix("test result: ok. ")
         tell(f"{part.name}: {last if passed else 'FAILED'} ({seconds:.0f} s)")
         if not passed:
             print("\n".join(f"    {it}" for it in lines[-SHOWN:]), flush=True)
