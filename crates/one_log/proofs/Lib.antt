@@ -1,0 +1,6 @@
+pub mod Cells
+pub mod Lanes
+pub mod Pasts
+pub mod Keeping
+pub mod Adding
+pub mod Fronts

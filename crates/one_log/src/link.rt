@@ -1,0 +1,11 @@
+//! What the log is made of.
+
+/// A step in the log. Cells go by their keys.
+pub enum Link<E> {
+    /// A lane was begun: its number, its first cell, and the cell that the end's next step brings home.
+    Begun(u64, u64, u64),
+    /// A lane may have one entry more: its number, and the cell that its next turn brings home.
+    Turn(u64, u64),
+    /// An entry: its lane, the entry, and the cell that the end's next step brings home.
+    Added(u64, E, u64),
+}
