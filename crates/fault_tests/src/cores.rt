@@ -1,6 +1,6 @@
 //! The shared core and the readers round it, where memory is refused: a step that is refused is counted and noted, and the
 //! same step again is answered; a recorder goes off; a reader ends, and its peer is down.
-ghost use Rattle.std.specs.Prelude.{◌≡◌};
+ghost use Rattle.test_tools.specs.Opening.{IsFor};
 
 use crate::checks::{same, same_list};
 use crate::reading::{Input, read_client_on, read_outstation_on};
@@ -10,10 +10,9 @@ use std::io::Print;
 use std::marker::Brand;
 use std::process::Abort;
 use std::sync::Wait;
-use std::sync::ledger::{Blank, Ledger};
 use test_tools::{
-    Answer, FROM_CLIENT, Hub, Recorder, Reply, SOURCES, Step, StepFault, TWO_OUTSTATIONS, TestCore,
-    WorkerEnd, hub_on, steps_of, text_of,
+    Answer, Course, FROM_CLIENT, Opening, Recorder, Reply, SOURCES, Step, StepFault,
+    TWO_OUTSTATIONS, TestCore, WorkerEnd, steps_of, text_of,
 };
 
 /// A station interrogation of a client that has started.
@@ -40,7 +39,7 @@ nothing
 
 /// What the steps of a conversation were answered.
 #[derive(Drop)]
-struct Course {
+struct Answered {
     /// By all calls, and by those that were not refused memory.
     made: Vec<Answer>,
     taken: Vec<Answer>,
@@ -48,16 +47,15 @@ struct Course {
 
 #[test]
 fn steps_again(rt: HostRuntime) {
-    let hub = hub_on(rt.alloc(), DEFAULT_SETTINGS).expect(&rt, "a hub");
-    interrogate::<Brand, _>(&rt, Blank::new(1), hub);
+    let opening = Opening::of(rt.alloc(), 1, DEFAULT_SETTINGS).expect(&rt, "an opening");
+    interrogate::<Brand, _>(&rt, opening);
 }
 
 /// Interrogates the station. Each step that is refused memory is made again.
-fn interrogate<L: Ledger, R: Wait + Print + Abort + AllocGlobal>(rt: &R, blank: Blank, hub: Hub)
-    requires name { blank.name ≡ L.name }
-    requires parts { (blank.parts ≡ L.parts) × (blank.parts ≡ 1) }
+fn interrogate<L: Course, R: Wait + Print + Abort + AllocGlobal>(rt: &R, opening: Opening)
+    requires { IsFor L.name L.parts L.book L.setup 1 opening }
 {
-    let mut core = TestCore::<L>::new(rt.alloc(), blank, hub, 1, 64).expect(rt, "a core");
+    let mut core = TestCore::<L>::new(rt.alloc(), opening, 1, 64).expect(rt, "a core");
     let course = course_of(rt, &mut core);
     let text = text_of(rt.alloc(), &course.taken).expect(rt, "memory");
     same_list(rt, text.as_slice(), INTERROGATION_REPLIES.as_bytes());
@@ -68,13 +66,13 @@ fn interrogate<L: Ledger, R: Wait + Print + Abort + AllocGlobal>(rt: &R, blank: 
 }
 
 /// Makes the steps of the interrogation.
-fn course_of<L: Ledger, R: Wait + Print + Abort + AllocGlobal>(
+fn course_of<L: Course, R: Wait + Print + Abort + AllocGlobal>(
     rt: &R,
     core: &mut TestCore<L>,
-) -> Course {
+) -> Answered {
     let steps = steps_of(rt.alloc(), INTERROGATION).expect(rt, "steps");
     let spare = steps_of(rt.alloc(), INTERROGATION).expect(rt, "steps");
-    let mut course = Course {
+    let mut course = Answered {
         made: Vec::with_capacity(rt.alloc(), 32).expect(rt, "memory"),
         taken: Vec::with_capacity(rt.alloc(), 32).expect(rt, "memory"),
     };
@@ -89,11 +87,11 @@ fn course_of<L: Ledger, R: Wait + Print + Abort + AllocGlobal>(
 }
 
 /// Makes a step; whether it was not refused memory.
-fn make<L: Ledger, R: Wait + Abort>(
+fn make<L: Course, R: Wait + Abort>(
     rt: &R,
     core: &mut TestCore<L>,
     step: Step,
-    course: &mut Course,
+    course: &mut Answered,
 ) -> bool {
     let (_number, answer) = core.step(rt, 0, step).expect(rt, "a pass");
     course.made.push(answer).expect(rt, "memory");
@@ -128,28 +126,26 @@ const START_CON: &[u8] = &[0x68, 0x04, 0x0B, 0x00, 0x00, 0x00];
 /// be made, or its recorder is off, another one like it is made, whose recorder is on.
 #[test]
 fn a_recorder(rt: HostRuntime) {
-    let hub = hub_on(rt.alloc(), DEFAULT_SETTINGS).expect(&rt, "a hub");
+    let opening = Opening::of(rt.alloc(), 2, DEFAULT_SETTINGS).expect(&rt, "an opening");
     let steps = steps_of(rt.alloc(), START).expect(&rt, "steps");
     begin(&rt);
-    let is_on = start::<Brand, _>(&rt, Blank::new(2), hub, steps);
+    let is_on = start::<Brand, _>(&rt, opening, steps);
     end(&rt, usize::from(is_on != Some(true)));
-    let hub = hub_on(rt.alloc(), DEFAULT_SETTINGS).expect(&rt, "a hub");
+    let opening = Opening::of(rt.alloc(), 2, DEFAULT_SETTINGS).expect(&rt, "an opening");
     let steps = steps_of(rt.alloc(), START).expect(&rt, "steps");
-    assert!(&rt; start::<Brand, _>(&rt, Blank::new(2), hub, steps) == Some(true));
+    assert!(&rt; start::<Brand, _>(&rt, opening, steps) == Some(true));
 }
 
 /// Makes the steps on a new core, whose recorder keeps two calls. Whether the recorder is on then; nothing where the core
 /// can't be made.
-fn start<L: Ledger, R: Wait + Abort + AllocGlobal>(
+fn start<L: Course, R: Wait + Abort + AllocGlobal>(
     rt: &R,
-    blank: Blank,
-    hub: Hub,
+    opening: Opening,
     steps: Vec<Step>,
 ) -> Option<bool>
-    requires name { blank.name ≡ L.name }
-    requires parts { (blank.parts ≡ L.parts) × (blank.parts ≡ 2) }
+    requires { IsFor L.name L.parts L.book L.setup 2 opening }
 {
-    let mut core = TestCore::<L>::new(rt.alloc(), blank, hub, 2, 2)?;
+    let mut core = TestCore::<L>::new(rt.alloc(), opening, 2, 2)?;
     make_start(rt, &mut core, steps);
     let (total, recorder) = core.end(rt).expect(rt, "all passes");
     same(rt, &total, &3);
@@ -159,7 +155,7 @@ fn start<L: Ledger, R: Wait + Abort + AllocGlobal>(
 }
 
 /// Makes two steps as actor 0, and the third as actor 1.
-fn make_start<L: Ledger, R: Wait + Abort>(rt: &R, core: &mut TestCore<L>, steps: Vec<Step>) {
+fn make_start<L: Course, R: Wait + Abort>(rt: &R, core: &mut TestCore<L>, steps: Vec<Step>) {
     for (step, actor) in steps.into_iter().zip([0, 0, 1]) {
         let (number, answer) = core.step(rt, actor, step).expect(rt, "a pass");
         assert!(rt; is_start(number, &answer));
@@ -194,17 +190,17 @@ fn has_ended(why: WorkerEnd) -> bool {
 
 #[test]
 fn a_reader_of_a_client(rt: HostRuntime) {
-    let hub = hub_on(rt.alloc(), DEFAULT_SETTINGS).expect(&rt, "a hub");
+    let opening = Opening::of(rt.alloc(), 1, DEFAULT_SETTINGS).expect(&rt, "an opening");
     let input = Input::whole(FROM_CLIENT);
-    let (why, _calls) = read_client_on::<Brand, _>(&rt, Blank::new(1), hub, input);
+    let (why, _calls) = read_client_on::<Brand, _>(&rt, opening, input);
     assert!(&rt; has_ended(why));
 }
 
 #[test]
 fn a_reader_of_an_outstation(rt: HostRuntime) {
-    let hub = hub_on(rt.alloc(), TWO_OUTSTATIONS).expect(&rt, "a hub");
+    let opening = Opening::of(rt.alloc(), 1, TWO_OUTSTATIONS).expect(&rt, "an opening");
     let [source, _] = SOURCES;
     let input = Input::whole(source.octets);
-    let why = read_outstation_on::<Brand, _>(&rt, Blank::new(1), hub, source, input);
+    let why = read_outstation_on::<Brand, _>(&rt, opening, source, input);
     assert!(&rt; has_ended(why));
 }

@@ -9,11 +9,11 @@ use test_tools::{
 };
 
 /// What comes before the run: a client that interrogates the station.
-const STEPS: &str = "open 0 0
+pub const STEPS: &str = "open 0 0
 frame 0 0 68 04 07 00 00 00
 frame 0 0 68 0E 00 00 00 00 64 01 06 00 01 00 00 00 00 14";
 
-const REPLIES: &str = "ok
+pub const REPLIES: &str = "ok
 taken
 taken
 ";
@@ -38,7 +38,7 @@ fn puts_out(rt: HostRuntime) {
 }
 
 /// A hub on which the steps were made.
-pub fn hub_after<R: Abort + AllocGlobal>(rt: &R) -> Hub {
+fn hub_after<R: Abort + AllocGlobal>(rt: &R) -> Hub {
     let mut hub = hub_on(rt.alloc(), DEFAULT_SETTINGS).expect(rt, "a hub");
     let replies = replies_of(rt.alloc(), &mut hub, STEPS).expect(rt, "replies");
     same_list(rt, replies.as_slice(), REPLIES.as_bytes());

@@ -1,12 +1,11 @@
 //! Readers of a peer that comes up on a core of its own, and is down behind them.
-ghost use Rattle.std.specs.Prelude.{◌≡◌};
+ghost use Rattle.test_tools.specs.Opening.{IsFor};
 
 use crate::watched::{begin, end};
 use std::io::Print;
 use std::process::Abort;
 use std::sync::Wait;
-use std::sync::ledger::{Blank, Ledger};
-use test_tools::{Arrival, Hub, Incoming, OpenGate, Sent, Source, TestCore, WorkerEnd};
+use test_tools::{Arrival, Course, Incoming, OpenGate, Opening, Sent, Source, TestCore, WorkerEnd};
 
 /// Octets of which so many reads give some; the next one fails.
 #[derive(Drop)]
@@ -45,16 +44,14 @@ impl<'a> Incoming for Input<'a> {
 }
 
 /// A client comes up and sends octets. It is down behind its reader: why this ended, and how many calls were made.
-pub fn read_client_on<L: Ledger, R: Wait + Print + Abort + AllocGlobal>(
+pub fn read_client_on<L: Course, R: Wait + Print + Abort + AllocGlobal>(
     rt: &R,
-    blank: Blank,
-    hub: Hub,
+    opening: Opening,
     input: Input<'_>,
 ) -> (WorkerEnd, u64)
-    requires name { blank.name ≡ L.name }
-    requires parts { (blank.parts ≡ L.parts) × (blank.parts ≡ 1) }
+    requires { IsFor L.name L.parts L.book L.setup 1 opening }
 {
-    let mut core = TestCore::<L>::new(rt.alloc(), blank, hub, 1, 64).expect(rt, "a core");
+    let mut core = TestCore::<L>::new(rt.alloc(), opening, 1, 64).expect(rt, "a core");
     assert!(rt; core.answers_so(rt, &[(0, 1)], "open 0 0", "ok\n"));
     assert!(rt; core.stands(rt, 0));
     let mut input = input;
@@ -68,17 +65,15 @@ pub fn read_client_on<L: Ledger, R: Wait + Print + Abort + AllocGlobal>(
 }
 
 /// Outstation 0 comes up and sends octets. It is down behind its reader: why this ended.
-pub fn read_outstation_on<L: Ledger, R: Wait + Print + Abort + AllocGlobal>(
+pub fn read_outstation_on<L: Course, R: Wait + Print + Abort + AllocGlobal>(
     rt: &R,
-    blank: Blank,
-    hub: Hub,
+    opening: Opening,
     source: &Source,
     input: Input<'_>,
 ) -> WorkerEnd
-    requires name { blank.name ≡ L.name }
-    requires parts { (blank.parts ≡ L.parts) × (blank.parts ≡ 1) }
+    requires { IsFor L.name L.parts L.book L.setup 1 opening }
 {
-    let mut core = TestCore::<L>::new(rt.alloc(), blank, hub, 1, 64).expect(rt, "a core");
+    let mut core = TestCore::<L>::new(rt.alloc(), opening, 1, 64).expect(rt, "a core");
     assert!(rt; core.answers_so(rt, &[(0, 1)], "up 0 0", "ok\n"));
     assert!(rt; !core.comes_up(rt));
     let mut input = input;

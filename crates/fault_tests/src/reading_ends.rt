@@ -1,12 +1,18 @@
 //! Tests of the readers: why they end where a client's octets are wrong, a read fails, or a step can't be counted.
 
+ghost use Rattle.test_tools.specs.Opening.{IsFor};
+
+use crate::checks::same;
 use crate::reading::{Input, read_client_on, read_outstation_on};
-use gw_map::{DEFAULT_SETTINGS, Settings};
+use gw_map::DEFAULT_SETTINGS;
 use iec_apci::ApciFault;
 use std::marker::Brand;
 use std::process::Abort;
-use std::sync::ledger::Blank;
-use test_tools::{Counts, FROM_CLIENT, Hub, SOURCES, TWO_OUTSTATIONS, Why, WorkerEnd, hub_on};
+use std::sync::Wait;
+use test_tools::{
+    Course, FROM_CLIENT, OpenGate, Opening, SOURCES, Sent, Spent, TWO_OUTSTATIONS, TestCore, Why,
+    WorkerEnd, read_client,
+};
 
 /// An interrogation, which is an I format.
 const I_FORMAT: &[u8] = &[
@@ -23,8 +29,8 @@ const ENDS: &[(&[u8], WorkerEnd)] = &[
 #[test]
 fn reading_ends(rt: HostRuntime) {
     for (octets, end) in ENDS {
-        let hub = hub_on(rt.alloc(), DEFAULT_SETTINGS).expect(&rt, "a hub");
-        let found = read_client_on::<Brand, _>(&rt, Blank::new(1), hub, Input::whole(octets));
+        let opening = Opening::of(rt.alloc(), 1, DEFAULT_SETTINGS).expect(&rt, "an opening");
+        let found = read_client_on::<Brand, _>(&rt, opening, Input::whole(octets));
         assert!(&rt; found == (*end, 2));
     }
 }
@@ -32,21 +38,27 @@ fn reading_ends(rt: HostRuntime) {
 /// STARTDT act.
 const START: &[u8] = &[0x68, 0x04, 0x07, 0x00, 0x00, 0x00];
 
-/// No further session can be counted.
-const LAST_SESSION: Counts = Counts {
-    news: 0,
-    sessions: u64::MAX,
-    orders: 0,
-    steps: 0,
-};
-
-/// A session that can't be counted ends the connection, behind the call that was refused.
+/// A call that can't be counted ends the connection.
 #[test]
 fn spent_ends(rt: HostRuntime) {
-    let settings = Settings::read(rt.alloc(), DEFAULT_SETTINGS).expect(&rt, "settings");
-    let hub = Hub::with_counts(rt.alloc(), settings, LAST_SESSION).expect(&rt, "a hub");
-    let found = read_client_on::<Brand, _>(&rt, Blank::new(1), hub, Input::whole(START));
-    assert!(&rt; found == (WorkerEnd::Stopping, 3));
+    let opening = Opening::of(rt.alloc(), 1, DEFAULT_SETTINGS).expect(&rt, "an opening");
+    read_uncounted::<Brand, _>(&rt, opening);
+}
+
+/// A client starts on a core that can't count further calls.
+fn read_uncounted<L: Course, R: Wait + Abort + AllocGlobal>(rt: &R, opening: Opening)
+    requires { IsFor L.name L.parts L.book L.setup 1 opening }
+{
+    let mut core = TestCore::<L>::new(rt.alloc(), opening, 1, 64).expect(rt, "a core");
+    let pass = core.passes.pop().expect(rt, "a pass");
+    let mut input = Sent { rest: START };
+    let spent = Spent {
+        shared: &core.shared,
+    };
+    let (pass, end) = read_client(rt, &spent, pass, 0, &mut input, &OpenGate);
+    assert!(rt; end == WorkerEnd::Stopping);
+    core.passes.push(pass).expect(rt, "memory");
+    same(rt, &core.total(rt).expect(rt, "all passes"), &0);
 }
 
 /// Behind a client's coming up, the calls that are made of so many reads before the next one fails, and the loss: the first
@@ -56,9 +68,9 @@ const CLIENT_CALLS: &[(u8, u64)] = &[(0, 2), (1, 3), (2, 3), (3, 3), (4, 4)];
 #[test]
 fn failing_reads_of_a_client(rt: HostRuntime) {
     for (reads, calls) in CLIENT_CALLS {
-        let hub = hub_on(rt.alloc(), DEFAULT_SETTINGS).expect(&rt, "a hub");
+        let opening = Opening::of(rt.alloc(), 1, DEFAULT_SETTINGS).expect(&rt, "an opening");
         let input = Input::failing(FROM_CLIENT, *reads);
-        let found = read_client_on::<Brand, _>(&rt, Blank::new(1), hub, input);
+        let found = read_client_on::<Brand, _>(&rt, opening, input);
         assert!(&rt; found == (WorkerEnd::ReadFault, *calls));
     }
 }
@@ -68,9 +80,9 @@ fn failing_reads_of_a_client(rt: HostRuntime) {
 fn failing_reads_of_an_outstation(rt: HostRuntime) {
     let [source, _] = SOURCES;
     for reads in 0..8 {
-        let hub = hub_on(rt.alloc(), TWO_OUTSTATIONS).expect(&rt, "a hub");
+        let opening = Opening::of(rt.alloc(), 1, TWO_OUTSTATIONS).expect(&rt, "an opening");
         let input = Input::failing(source.octets, reads);
-        let found = read_outstation_on::<Brand, _>(&rt, Blank::new(1), hub, source, input);
+        let found = read_outstation_on::<Brand, _>(&rt, opening, source, input);
         assert!(&rt; found == WorkerEnd::ReadFault);
     }
 }

@@ -1,29 +1,43 @@
 //! Tests of client_writer where writing fails.
-ghost use Rattle.std.specs.Prelude.{◌≡◌, None};
+ghost use Rattle.std.specs.Prelude.{None};
+ghost use Rattle.test_tools.specs.Opening.{IsFor};
 
 use crate::checks::{same, same_list};
-use crate::putting::{RUN, hub_after};
+use crate::putting::{REPLIES, RUN, STEPS};
+use gw_map::DEFAULT_SETTINGS;
 use std::marker::Brand;
 use std::process::Abort;
 use std::sync::Wait;
 use std::sync::atomic::AtomicBool;
-use std::sync::ledger::{Blank, Ledger};
 use test_tools::{
-    Client, Hub, OpenGate, Outgoing, TestCore, Unwritten, WorkerEnd, answer_of, hub_on, replies_of,
-    step_of,
+    Client, Course, OpenGate, Opening, Outgoing, TestCore, Turn, Unwritten, WorkerEnd,
 };
 
 /// A client that takes so many octets of the answer to an interrogation, and fails then: they are the front of it.
 #[test]
 fn writing_ends(rt: HostRuntime) {
     for room in 0..RUN.len() {
-        let hub = hub_after(&rt);
-        let has_ended = AtomicBool::new(false);
-        let mut writer = Client::new(rt.alloc(), room, &has_ended);
-        write::<Brand, _, _>(&rt, Blank::new(1), hub, &mut writer);
+        let opening = Opening::of(rt.alloc(), 1, DEFAULT_SETTINGS).expect(&rt, "an opening");
+        let octets = write_run::<Brand, _>(&rt, opening, room);
         let front = RUN.get(..room).expect(&rt, "that much");
-        same_list(&rt, writer.octets.as_slice(), front);
+        same_list(&rt, octets.as_slice(), front);
     }
+}
+
+/// Writes the answer to a client that takes so many octets: those that it took.
+fn write_run<L: Course, R: Wait + Abort + AllocGlobal>(
+    rt: &R,
+    opening: Opening,
+    room: usize,
+) -> Vec<u8>
+    requires { IsFor L.name L.parts L.book L.setup 1 opening }
+{
+    let core = TestCore::<L>::new(rt.alloc(), opening, 1, 256).expect(rt, "a core");
+    let has_ended = AtomicBool::new(false);
+    let mut writer = Client::new(rt.alloc(), room, &has_ended);
+    write(rt, core, STEPS, REPLIES, &mut writer);
+    let Client { octets, .. } = writer;
+    octets
 }
 
 /// A client that takes the octets of one write, and fails at each further one.
@@ -71,63 +85,70 @@ index = 0
 address = 4201
 ";
 
-/// The client starts.
-const STEPS: &str = "open 0 0
+/// The client starts; a fragment comes behind that.
+const START: &str = "open 0 0
 frame 0 0 68 04 07 00 00 00
-up 0 0";
+up 0 0
+";
 
-const REPLIES: &str = "ok
+const START_REPLIES: &str = "ok
 taken
 ok
+accepted confirm D0 00
 ";
 
 /// The first write has STARTDT con and 63 news: 32 of the one point and 31 of the other. The second one fails, and there
 /// is no third.
 #[test]
 fn the_second_write_fails(rt: HostRuntime) {
-    let hub = hub_with_news(&rt);
+    let opening = Opening::of(rt.alloc(), 1, SETTINGS).expect(&rt, "an opening");
+    let writer = write_news::<Brand, _>(&rt, opening);
+    same(&rt, &writer.octets, &(6 + 32 * 16 + 31 * 18));
+    same(&rt, &writer.writes, &2);
+}
+
+/// Writes the news to a client that takes one write: what it took.
+fn write_news<L: Course, R: Wait + Abort + AllocGlobal>(rt: &R, opening: Opening) -> OneWrite
+    requires { IsFor L.name L.parts L.book L.setup 1 opening }
+{
+    let core = TestCore::<L>::new(rt.alloc(), opening, 1, 256).expect(rt, "a core");
+    let lines = lines_with_news(rt);
     let mut writer = OneWrite {
         octets: 0,
         writes: 0,
         has_failed: false,
     };
-    write::<Brand, _, _>(&rt, Blank::new(1), hub, &mut writer);
-    same(&rt, &writer.octets, &(6 + 32 * 16 + 31 * 18));
-    same(&rt, &writer.writes, &2);
+    write(rt, core, lines.as_str(), START_REPLIES, &mut writer);
+    writer
 }
 
-/// A hub with 66 news for a client, of two types in turn, so that each goes alone.
-fn hub_with_news<R: Abort + AllocGlobal>(rt: &R) -> Hub {
-    let mut hub = hub_on(rt.alloc(), SETTINGS).expect(rt, "a hub");
-    let replies = replies_of(rt.alloc(), &mut hub, STEPS).expect(rt, "replies");
-    same_list(rt, replies.as_slice(), REPLIES.as_bytes());
-    let fragment = step_of(rt.alloc(), fragment(rt).as_str()).expect(rt, "a step");
-    assert!(rt; answer_of(&mut hub, &fragment).is_ok());
-    hub
-}
-
-/// The line of a fragment with 33 events of each point.
-fn fragment<R: Abort + AllocGlobal>(rt: &R) -> String {
-    let mut line = String::new(rt.alloc());
-    line.push_str("frag 0 0 F0 82 00 00").expect(rt, "memory");
+/// The lines of steps that bring 66 news for a client, of two types in turn, so that each goes alone: its start, and a
+/// fragment with 33 events of each point.
+fn lines_with_news<R: Abort + AllocGlobal>(rt: &R) -> String {
+    let mut lines = String::new(rt.alloc());
+    lines.push_str(START).expect(rt, "memory");
+    lines.push_str("frag 0 0 F0 82 00 00").expect(rt, "memory");
     for _ in 0..33u8 {
-        line.push_str(" 02 01 17 01 05 81 20 02 17 01 00 01 10 00")
+        lines
+            .push_str(" 02 01 17 01 05 81 20 02 17 01 00 01 10 00")
             .expect(rt, "memory");
     }
-    line
+    lines
 }
 
-/// The writer ends, since a write failed; the client is down, and all calls are counted.
-fn write<L: Ledger, R: Wait + Abort + AllocGlobal, W: Outgoing>(
+/// Whose turn it is at each of the steps.
+const TURNS: &[Turn] = &[(0, 0); 4];
+
+/// Behind these steps the writer ends, since a write failed; the client is down, and all calls are counted.
+fn write<L: Course, R: Wait + Abort + AllocGlobal, W: Outgoing>(
     rt: &R,
-    blank: Blank,
-    hub: Hub,
+    core: TestCore<L>,
+    lines: &str,
+    replies: &str,
     writer: &mut W,
-)
-    requires name { blank.name ≡ L.name }
-    requires parts { (blank.parts ≡ L.parts) × (blank.parts ≡ 1) }
-{
-    let mut core = TestCore::<L>::new(rt.alloc(), blank, hub, 1, 256).expect(rt, "a core");
+) {
+    let mut core = core;
+    assert!(rt; core.answers_so(rt, TURNS, lines, replies));
     assert!(rt; core.stands(rt, 0));
     let end = core
         .write_client(rt, writer, &OpenGate)

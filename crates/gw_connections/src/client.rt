@@ -8,14 +8,14 @@ use crate::lookout::{ANY_TIME, tell_dropped};
 use crate::sockets::ClientSocket;
 use gw_journal::{Cause, JournalEvent};
 use gw_peers::{ClientCard, Desk, Lobby, Visit, shut};
-use gw_readers::{Calls, Clock, Gate, Step, Why};
+use gw_readers::{Calls, Clock, Course, Gate, Step, Why};
+use std::marker::Brand;
 use std::net::{SocketAddr, TcpStream};
 use std::sync::Wait;
-use std::sync::ledger::Ledger;
 
 /// Serves the clients that get this place, until no further one comes.
 pub fn serve_place<
-    L: Ledger + Send + Sync,
+    L: Course + Send + Sync,
     S: Calls<L> + Sync,
     R: Host,
     C: Clock + Sync,
@@ -39,7 +39,7 @@ pub fn serve_place<
 
 /// Serves one client.
 fn serve_visit<
-    L: Ledger + Send + Sync,
+    L: Course + Send + Sync,
     S: Calls<L> + Sync,
     R: Host,
     C: Clock + Sync,
@@ -110,7 +110,7 @@ fn told_as(leaves: bool, stopping: bool, met: Cause) -> Cause {
 
 /// Serves one client on its connection, until that ends; why it ended.
 fn serve_stream<
-    L: Ledger + Send + Sync,
+    L: Course + Send + Sync,
     S: Calls<L> + Sync,
     R: Host,
     C: Clock + Sync,
@@ -123,7 +123,7 @@ fn serve_stream<
 ) -> (Passes<L>, Cause) {
     let ending = Ending::new();
     let socket = ClientSocket::new(stream, &ending);
-    let connection = Connection {
+    let connection: Connection<'_, '_, Brand> = Connection {
         stream,
         ending: &ending,
         peer: Peer::Client { client, socket },

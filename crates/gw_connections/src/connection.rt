@@ -6,40 +6,40 @@ use crate::host::Host;
 use crate::house::House;
 use crate::sockets::{ClientSocket, OutstationSocket};
 use dnp_receive::Receiver;
+use gw_ends::LineCourse;
 use gw_journal::Cause;
 use gw_peers::shut;
 use gw_readers::{
-    Calls, Clock, Gate, Line, Pass, Patience, WorkerEnd, client_reader, client_writer,
+    Calls, Clock, Course, Gate, Line, Pass, Patience, WorkerEnd, client_reader, client_writer,
     outstation_reader, outstation_writer,
 };
 use std::net::TcpStream;
 use std::rt::Clock as Sleeps;
 use std::sync::Wait;
-use std::sync::ledger::Ledger;
 use std::thread;
 
 /// The passes of a connection's workers.
 #[derive(Drop)]
-pub struct Passes<L: Ledger> {
+pub struct Passes<L: Course> {
     pub reader: Pass<L>,
     pub writer: Pass<L>,
 }
 
 /// Who is at the other end of a connection, and what the workers read from and write to.
 #[derive(Drop)]
-pub enum Peer<'a, 'b> {
+pub enum Peer<'a, 'b, N: LineCourse> {
     /// The client at a place.
     Client {
         client: u8,
         socket: ClientSocket<'b>,
     },
     /// An outstation.
-    Outstation(Link<'a, 'b>),
+    Outstation(Link<'a, 'b, N>),
 }
 
 /// The link to an outstation.
 #[derive(Drop)]
-pub struct Link<'a, 'b> {
+pub struct Link<'a, 'b, N: LineCourse> {
     pub outstation: u8,
     /// The link address of the master.
     pub own: u16,
@@ -48,18 +48,18 @@ pub struct Link<'a, 'b> {
     /// How long its reader waits at most.
     pub patience: Patience,
     pub socket: OutstationSocket<'b>,
-    pub line: &'a Line<OutstationSocket<'b>>,
+    pub line: &'a Line<OutstationSocket<'b>, N>,
 }
 
 /// A connection.
 #[derive(Drop)]
-pub struct Connection<'a, 'b> {
+pub struct Connection<'a, 'b, N: LineCourse> {
     pub stream: &'b TcpStream,
     pub ending: &'b Ending,
-    pub peer: Peer<'a, 'b>,
+    pub peer: Peer<'a, 'b, N>,
 }
 
-impl<'a, 'b> Connection<'a, 'b> {
+impl<'a, 'b, N: LineCourse> Connection<'a, 'b, N> {
     /// The reader has ended.
     fn end_reader(&self) {
         self.ending.reader();
@@ -75,14 +75,15 @@ impl<'a, 'b> Connection<'a, 'b> {
 
 /// Both workers of a connection, the writer in a thread of its own, until both have ended; why it ended.
 pub fn exchange<
-    L: Ledger + Send + Sync,
+    L: Course + Send + Sync,
+    N: LineCourse + Send + Sync,
     S: Calls<L> + Sync,
     R: Host,
     C: Clock + Sync,
     G: Gate + Sync,
 >(
     house: &House<'_, S, R, C, G>,
-    connection: &Connection<'_, '_>,
+    connection: &Connection<'_, '_, N>,
     passes: Passes<L>,
 ) -> (Passes<L>, Cause) {
     let Passes { reader, writer } = passes;
@@ -90,7 +91,7 @@ pub fn exchange<
         thread::scope_env(),
         house.desk.rt,
         move |scope| -> ((Pass<L>, WorkerEnd), (Pass<L>, WorkerEnd))
-            requires { IsSend L.row × IsSync L.row × IsSync S.row × IsSync R.row × IsSync C.row × IsSync G.row }
+            requires { IsSend L.row × IsSync L.row × IsSend N.row × IsSync N.row × IsSync S.row × IsSync R.row × IsSync C.row × IsSync G.row }
         {
             let writing = scope.spawn(move || write(house, connection, writer));
             if writing.is_err() {
@@ -109,9 +110,9 @@ pub fn exchange<
 }
 
 /// The reader, and the end of its connection.
-fn read<L: Ledger, S: Calls<L>, R: Wait, C: Clock, G: Gate>(
+fn read<L: Course, N: LineCourse, S: Calls<L>, R: Wait, C: Clock, G: Gate>(
     house: &House<'_, S, R, C, G>,
-    connection: &Connection<'_, '_>,
+    connection: &Connection<'_, '_, N>,
     pass: Pass<L>,
 ) -> (Pass<L>, WorkerEnd) {
     let (desk, shared, gate) = (house.desk, house.shared, house.gate);
@@ -124,7 +125,7 @@ fn read<L: Ledger, S: Calls<L>, R: Wait, C: Clock, G: Gate>(
         }
         Peer::Outstation(link) => {
             let mut input = link.socket;
-            outstation_reader(
+            let (pass, _, end) = outstation_reader(
                 desk.alloc,
                 desk.rt,
                 shared,
@@ -136,7 +137,8 @@ fn read<L: Ledger, S: Calls<L>, R: Wait, C: Clock, G: Gate>(
                 desk.clock,
                 gate,
                 link.patience,
-            )
+            );
+            (pass, end)
         }
     };
     connection.end_reader();
@@ -144,9 +146,9 @@ fn read<L: Ledger, S: Calls<L>, R: Wait, C: Clock, G: Gate>(
 }
 
 /// The writer, and the end of its connection.
-fn write<L: Ledger, S: Calls<L>, R: Wait + Sleeps, C: Clock, G: Gate>(
+fn write<L: Course, N: LineCourse, S: Calls<L>, R: Wait + Sleeps, C: Clock, G: Gate>(
     house: &House<'_, S, R, C, G>,
-    connection: &Connection<'_, '_>,
+    connection: &Connection<'_, '_, N>,
     pass: Pass<L>,
 ) -> (Pass<L>, WorkerEnd) {
     let (rt, clock, shared, gate) = (house.desk.rt, house.desk.clock, house.shared, house.gate);
@@ -155,15 +157,18 @@ fn write<L: Ledger, S: Calls<L>, R: Wait + Sleeps, C: Clock, G: Gate>(
             let mut output = *socket;
             client_writer(rt, shared, pass, *client, &mut output, clock, gate)
         }
-        Peer::Outstation(link) => outstation_writer(
-            rt,
-            shared,
-            pass,
-            link.outstation,
-            link.line,
-            clock,
-            gate,
-        ),
+        Peer::Outstation(link) => {
+            let (pass, _, end) = outstation_writer(
+                rt,
+                shared,
+                pass,
+                link.outstation,
+                link.line,
+                clock,
+                gate,
+            );
+            (pass, end)
+        }
     };
     connection.end_writer();
     ended

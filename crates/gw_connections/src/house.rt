@@ -1,9 +1,8 @@
 //! What the threads share that make steps on the core.
 
 use gw_peers::Desk;
-use gw_readers::{Calls, Clock, Gate, Pass, Step, make_call};
+use gw_readers::{Calls, Clock, Course, Gate, Pass, Step, make_call};
 use std::sync::Wait;
-use std::sync::ledger::Ledger;
 
 /// What the threads share that make steps on the core.
 #[derive(Drop)]
@@ -14,7 +13,7 @@ pub struct House<'a, S, R, C, G> {
 }
 
 /// Makes a step on the core; whether it was made.
-pub fn is_made<L: Ledger, S: Calls<L>, R: Wait, C: Clock, G: Gate>(
+pub fn is_made<L: Course, S: Calls<L>, R: Wait, C: Clock, G: Gate>(
     house: &House<'_, S, R, C, G>,
     pass: &mut Pass<L>,
     step: Step,

@@ -14,7 +14,8 @@ mod sockets;
 pub use client::serve_place;
 pub use connection::Passes;
 pub use gw_readers::{
-    Call, Calls, Closed, Gate, OpenGate, Pass, Place, Pumped, Run, Shared, Step, StepFault, clock,
+    Call, Calls, Closed, Course, Gate, OpenGate, Pass, Place, Pumped, Run, Shared, Step, StepFault,
+    clock,
 };
 pub use host::Host;
 pub use house::House;

@@ -2,16 +2,15 @@
 
 use gw_journal::{DueNotes, JournalEvent, Refused};
 use gw_peers::{ClientCard, Desk};
-use gw_readers::{Calls, Clock, Figures, pause};
+use gw_readers::{Calls, Clock, Course, Figures, pause};
 use std::rt::Clock as Sleeps;
 use std::sync::Wait;
-use std::sync::ledger::Ledger;
 
 /// A time at which whatever waits for its time is due.
 pub const ANY_TIME: u64 = u64::MAX;
 
 /// Looks at what is known of all peers each second, and tells what is due, until the server ends.
-pub fn look_out<L: Ledger, S: Calls<L>, R: Wait + Sleeps, C: Clock>(
+pub fn look_out<L: Course, S: Calls<L>, R: Wait + Sleeps, C: Clock>(
     desk: &Desk<'_, R, C>,
     shared: &S,
 ) {

@@ -1,23 +1,26 @@
 //! One outstation: its workers, connection after connection.
 
+ghost use Rattle.std.specs.Prelude.{◌≡◌, false, None};
+
 use crate::connection::{Connection, Link, Passes, Peer, exchange};
 use crate::ending::Ending;
 use crate::host::Host;
 use crate::house::{House, is_made};
 use crate::sockets::OutstationSocket;
+use gw_ends::{LineCourse, Opened, Sending, open_line};
 use gw_journal::{Cause, Failure, JournalEvent};
 use gw_peers::{Desk, Plan, shut};
-use gw_readers::{Calls, Clock, Gate, Line, Patience, Step, pause};
+use gw_readers::{Calls, Clock, Course, Gate, Line, Patience, Step, pause};
+use std::marker::Brand;
 use std::net::{TcpStream, ToSocketAddrs};
 use std::sync::Wait;
-use std::sync::ledger::Ledger;
 
 /// The milliseconds behind which it is told again that no connection could be made, though for the same reason.
 const AGAIN_MS: u64 = 3_600_000;
 
 /// Keeps a connection to an outstation, until the server ends.
 pub fn serve_outstation<
-    L: Ledger + Send + Sync,
+    L: Course + Send + Sync,
     S: Calls<L> + Sync,
     R: Host,
     C: Clock + Sync,
@@ -85,7 +88,7 @@ fn connect<R: Host>(rt: &R, plan: &Plan) -> Result<TcpStream, Failure> {
 
 /// One connection, from its up step to its end.
 fn serve_connection<
-    L: Ledger + Send + Sync,
+    L: Course + Send + Sync,
     S: Calls<L> + Sync,
     R: Host,
     C: Clock + Sync,
@@ -136,7 +139,7 @@ fn end<R: Wait, C: Clock>(desk: &Desk<'_, R, C>, outstation: u8, cause: Cause) {
 
 /// Serves an outstation on its connection, until that ends; why it ended.
 fn serve_stream<
-    L: Ledger + Send + Sync,
+    L: Course + Send + Sync,
     S: Calls<L> + Sync,
     R: Host,
     C: Clock + Sync,
@@ -148,9 +151,37 @@ fn serve_stream<
     passes: Passes<L>,
     stream: &TcpStream,
 ) -> (Passes<L>, Cause) {
+    match open_line() {
+        Some(history) => serve_line::<L, Brand, S, R, C, G>(
+            house, outstation, plan, passes, stream, history,
+        ),
+        None => (passes, Cause::Memory),
+    }
+}
+
+/// The same, with a history of its line.
+fn serve_line<
+    L: Course + Send + Sync,
+    N: LineCourse + Send + Sync,
+    S: Calls<L> + Sync,
+    R: Host,
+    C: Clock + Sync,
+    G: Gate + Sync,
+>(
+    house: &House<'_, S, R, C, G>,
+    outstation: u8,
+    plan: &Plan,
+    passes: Passes<L>,
+    stream: &TcpStream,
+    history: Opened<Sending>,
+) -> (Passes<L>, Cause)
+    requires book { history.seen.book ≡ N.book }
+    requires first { N.first ≡ None }
+    requires failed { N.failed ≡ false }
+{
     let ending = Ending::new();
     let socket = OutstationSocket::new(stream, &ending, plan);
-    let line = Line::new(socket, plan.own, plan.peer);
+    let line: Line<OutstationSocket<'_>, N> = Line::new(socket, plan.own, plan.peer, history);
     let link = Link {
         outstation,
         own: plan.own,

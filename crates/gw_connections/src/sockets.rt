@@ -1,5 +1,5 @@
 //! TCP connections as the workers' ends.
-ghost use Rattle.std.specs.Prelude.{◌≡◌, ◌≤◌, None, IfOk, length};
+ghost use Rattle.std.specs.Prelude.{◌≡◌, ◌≤◌, false, None, IfOk, length};
 ghost use Rattle.gw_ends.specs.Ends.{IsWithin};
 
 use crate::ending::Ending;
@@ -51,7 +51,9 @@ impl<'a> ClientSocket<'a> {
 impl<'a> OutstationSocket<'a> {
     /// A connection that was made; the plan says how long the outstation may be silent, and how long a write may take.
     /// An option that can't be set leaves it as it is.
-    pub fn new(stream: &'a TcpStream, ending: &'a Ending, plan: &Plan) -> OutstationSocket<'a> {
+    pub fn new(stream: &'a TcpStream, ending: &'a Ending, plan: &Plan) -> OutstationSocket<'a>
+        ensures { result.has_failed ≡ false }
+    {
         let _ = stream.set_nodelay(true);
         let _ = stream.set_read_timeout(Some(plan.silence));
         let _ = stream.set_write_timeout(Some(plan.response));

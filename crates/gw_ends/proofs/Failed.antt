@@ -1,5 +1,5 @@
 -- What failed, by how workers end.
-use Rattle.std.proofs.Common.{◌≡◌, Bool, false, Option, Some, None, Ok, Err, refl}
+use Rattle.std.proofs.Common.{◌≡◌, false, Option, Some, None, Ok, Err, refl}
 use Rattle.std.specs.Prelude.{IfSome}
 use Rattle.gw_ends.specs.Ends.{is_fault, is_read_fault, is_write_fault, reading_end, IsOfFrames, IsOfSteps}
 use Rattle.gw_ends.specs.PutOut.{is_unwritten, writing_end}
@@ -38,14 +38,13 @@ steps_read (Some ends.Memory) steps = refl
 steps_read (Some ends.Stopping) steps = refl
 
 -- nor does a frame
-pub frames_read : {W : Type 0} (has_failed : W → Bool) (end : Option WorkerEnd) → IfSome end (IsOfFrames has_failed)
-    → is_read_fault end ≡ false
-frames_read has_failed None frames = refl
-frames_read has_failed (Some (ends.Closed why)) frames = refl
-frames_read has_failed (Some ends.EndOfInput) frames = refl
-frames_read has_failed (Some ends.ReadFault) frames = absurd frames
-frames_read has_failed (Some ends.Unanswered) frames = refl
-frames_read has_failed (Some ends.WriteFault) frames = refl
-frames_read has_failed (Some (ends.Malformed fault)) frames = refl
-frames_read has_failed (Some ends.Memory) frames = refl
-frames_read has_failed (Some ends.Stopping) frames = refl
+pub frames_read : (end : Option WorkerEnd) → IfSome end IsOfFrames → is_read_fault end ≡ false
+frames_read None frames = refl
+frames_read (Some (ends.Closed why)) frames = refl
+frames_read (Some ends.EndOfInput) frames = refl
+frames_read (Some ends.ReadFault) frames = absurd frames
+frames_read (Some ends.Unanswered) frames = refl
+frames_read (Some ends.WriteFault) frames = refl
+frames_read (Some (ends.Malformed fault)) frames = refl
+frames_read (Some ends.Memory) frames = refl
+frames_read (Some ends.Stopping) frames = refl

@@ -2,3 +2,4 @@ pub mod Failed
 pub mod Framing
 pub mod Joined
 pub mod Runs
+pub mod Follow

@@ -1,5 +1,5 @@
 -- What is read of a peer, and how workers end.
-use Rattle.std.specs.Prelude.{◌≡◌, ℕ, ◌≤◌, Bool, true, false, Option, Some, None}
+use Rattle.std.specs.Prelude.{ℕ, ◌≤◌, Bool, true, false, Option, Some, None}
 use Rattle.gw_ends.specs.declared.worker_end.WorkerEnd.{WorkerEnd}
 use Rattle.gw_ends.specs.declared.worker_end.WorkerEnd.TheVariants as ends
 use Rattle.gw_ends.specs.declared.ends.Arrival.{Arrival}
@@ -32,10 +32,6 @@ abbrev pub is_write_fault : Option WorkerEnd → Bool
 is_write_fault (Some ends.WriteFault) = true
 is_write_fault _ = false
 
--- there is a state in which an end has failed
-abbrev pub CanFail : {E : Type 0} → (E → Bool) → Type 0
-CanFail {E} has_failed = (state : E) × (has_failed state ≡ true)
-
 -- a reader may end so: never by a write, nor since nothing answers
 abbrev pub MayEnd : WorkerEnd → Type 0
 MayEnd ends.WriteFault = ⊥
@@ -50,20 +46,18 @@ IsOfSteps ends.WriteFault = ⊥
 IsOfSteps ends.Unanswered = ⊥
 IsOfSteps _ = Unit {0}
 
--- a reader that also writes may end so: by a failed write only where its writer can fail, and never by what ends a
--- client alone
-abbrev pub MayEndBetween : {W : Type 0} → (W → Bool) → WorkerEnd → Type 0
-MayEndBetween has_failed ends.WriteFault = CanFail has_failed
-MayEndBetween has_failed (ends.Closed why) = ⊥
-MayEndBetween has_failed (ends.Malformed fault) = ⊥
-MayEndBetween has_failed _ = Unit {0}
+-- a reader that also writes may end so: never by what ends a client alone
+abbrev pub MayEndBetween : WorkerEnd → Type 0
+MayEndBetween (ends.Closed why) = ⊥
+MayEndBetween (ends.Malformed fault) = ⊥
+MayEndBetween _ = Unit {0}
 
 -- what frames, and the steps that they bring, end such a reader by
-abbrev pub IsOfFrames : {W : Type 0} → (W → Bool) → WorkerEnd → Type 0
-IsOfFrames has_failed ends.WriteFault = CanFail has_failed
-IsOfFrames has_failed ends.Memory = Unit {0}
-IsOfFrames has_failed ends.Stopping = Unit {0}
-IsOfFrames has_failed _ = ⊥
+abbrev pub IsOfFrames : WorkerEnd → Type 0
+IsOfFrames ends.WriteFault = Unit {0}
+IsOfFrames ends.Memory = Unit {0}
+IsOfFrames ends.Stopping = Unit {0}
+IsOfFrames _ = ⊥
 
 -- a writer may end so: by a failed write, or since it is to stop
 abbrev pub MayEndWriting : WorkerEnd → Type 0

@@ -2,3 +2,4 @@ pub mod Ends
 pub mod Framed
 pub mod Octets
 pub mod PutOut
+pub mod Sent

@@ -8,12 +8,15 @@ mod batch;
 mod ends;
 mod line;
 mod putting;
+mod sent;
 mod wire;
 mod worker_end;
 
 pub use answer::apdu_in;
 pub use batch::{Batch, LONGEST_APDU};
 pub use ends::{Arrival, Incoming, Outgoing, Unwritten};
-pub use line::Line;
+pub use line::{Line, LineCourse};
+pub use one_log::{Front, Head, Opened};
 pub use putting::{Gathered, Put, Source, put_out};
+pub use sent::{Sending, Sent, open_line};
 pub use worker_end::WorkerEnd;

@@ -1,5 +1,5 @@
 //! Fragments on the link to an outstation.
-ghost use Rattle.std.specs.Prelude.{◌≡◌, ◌≤◌, ◌<◌, ◌+◌, ◌%◌, ◌||◌, is_err, length, take, ℕ, OnOk};
+ghost use Rattle.std.specs.Prelude.{◌≡◌, ◌≤◌, ◌<◌, ◌+◌, ◌%◌, ◌||◌, is_err, length, take, ℕ, OnErr, OnOk};
 ghost use Rattle.std.specs.Io.KnownBytes.{Appends};
 ghost use Rattle.dnp_transport.specs.Cut.{segments_of};
 ghost use Rattle.gw_ends.specs.Framed.{framed};
@@ -28,7 +28,9 @@ pub struct Wire<W: Outgoing> {
 
 impl<W: Outgoing> Wire<W> {
     /// A link on which nothing was sent.
-    pub fn new(writer: W, own: u16, peer: u16) -> Wire<W> {
+    pub fn new(writer: W, own: u16, peer: u16) -> Wire<W>
+        ensures { result ≡ record { writer = writer; own = own; peer = peer; sequence = 0 } }
+    {
         Wire {
             writer,
             own,
@@ -37,11 +39,20 @@ impl<W: Outgoing> Wire<W> {
         }
     }
 
+    /// Where octets go.
+    pub fn into_writer(self) -> W
+        ensures { result ≡ self.writer }
+    {
+        self.writer
+    }
+
     /// Sends a fragment of at most 2,048 octets, a frame for each segment: one where it has at most 249.
     pub fn send(&mut self, fragment: &[u8]) -> Result<(), Unwritten>
         requires { length fragment.now ≤ 2048 }
         ensures ok { OnOk result (Appends (W.contents self.old.writer) (W.contents self.new.writer)
             (framed self.old.own self.old.peer (segments_of fragment.now (self.old.sequence % 64)))) }
+        ensures front { OnErr result ((count : ℕ) × Appends (W.contents self.old.writer) (W.contents self.new.writer)
+            (take count (framed self.old.own self.old.peer (segments_of fragment.now (self.old.sequence % 64))))) }
         ensures failed { W.has_failed self.new.writer ≡ (is_err result || W.has_failed self.old.writer) }
         ensures addresses { (self.new.own ≡ self.old.own) × (self.new.peer ≡ self.old.peer) }
         // The next sequence number is behind those of the segments.
@@ -51,7 +62,9 @@ impl<W: Outgoing> Wire<W> {
         'segments: for segment in segments(fragment, self.sequence % 64) {
             let mut frame = [0; 292];
             let end = write_frame(USER_DATA, self.peer, self.own, segment.octets(), &mut frame);
-            self.writer.hand(&frame[..end])?;
+            if let Err(refused) = self.writer.hand(&frame[..end]) {
+                return Err(refused);
+            }
             self.sequence = (self.sequence % 64 + 1) % 64;
         }
         Ok(())
@@ -60,6 +73,8 @@ impl<W: Outgoing> Wire<W> {
     /// Sends a frame of the link as it is.
     pub fn answer(&mut self, frame: &[u8]) -> Result<(), Unwritten>
         ensures ok { OnOk result (Appends (W.contents self.old.writer) (W.contents self.new.writer) frame.now) }
+        ensures front { OnErr result ((count : ℕ) × Appends (W.contents self.old.writer) (W.contents self.new.writer)
+            (take count frame.now)) }
         ensures failed { W.has_failed self.new.writer ≡ (is_err result || W.has_failed self.old.writer) }
         ensures addresses { (self.new.own ≡ self.old.own) × (self.new.peer ≡ self.old.peer) }
         ensures sequence { self.new.sequence ≡ self.old.sequence }

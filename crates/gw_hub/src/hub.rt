@@ -10,7 +10,7 @@ ghost use Rattle.gw_model.specs.Places.{change};
 ghost use Rattle.gw_steps.specs.Controls.{order_due};
 ghost use Rattle.gw_steps.specs.Steps.{can_order, can_rise, client_up, command_of, is_beginning, is_ordering, latest, one_if, order_ended, reply_of_event};
 ghost use Rattle.gw_steps.specs.Runs.{history, state_after, AtEach, IsRun};
-ghost use Rattle.gw_history.specs.Premises.{HasKnownRows, IsSoundRun};
+ghost use Rattle.gw_history.specs.Premises.{HasKnownRows, IsSoundRun, IsSoundSetup};
 ghost use Rattle.gw_laws.specs.Connections.{Connections};
 ghost use Rattle.gw_laws.specs.Promises.{Promises};
 ghost use Rattle.gw_orders.specs.Bonds.{Bonds, HasShortIndex};
@@ -78,6 +78,7 @@ impl Hub {
         ensures setup { IfOk result (λ hub. hub.setup ≡ settings) }
         ensures state { IfOk result (λ hub. hub.state ≡ at_first settings) }
         ensures settings { HasSingleAddresses settings.rows settings.controls × IsStation settings.station }
+        ensures sound { IsSoundSetup settings }
         ensures indices { AllByRecursion HasShortIndex settings.controls }
     {
         let none = Counts {
@@ -90,10 +91,12 @@ impl Hub {
     }
 
     /// The same, where these counts stand already: so it can be tried what comes where one of them can't rise.
+    #[tactic(auto, using(crate::proofs::Made::sound_setup))]
     pub fn with_counts(alloc: Global, settings: Settings, counts: Counts) -> Result<Hub, Memory>
         ensures setup { IfOk result (λ hub. hub.setup ≡ settings) }
         ensures state { IfOk result (λ hub. hub.state ≡ first_after settings (tally_of counts) counts.orders) }
         ensures settings { HasSingleAddresses settings.rows settings.controls × IsStation settings.station }
+        ensures sound { IsSoundSetup settings }
         ensures indices { AllByRecursion HasShortIndex settings.controls }
     {
         // The contracts of `rows` and `station` tell what all settings keep.

@@ -3,18 +3,19 @@ ghost use Rattle.std.specs.Prelude.{◌≡◌, ◌||◌, IfSome, Some};
 ghost use Rattle.gw_ends.specs.Ends.{is_read_fault, IsOfSteps, MayEnd};
 
 use gw_ends::{Arrival, Incoming, WorkerEnd};
-use gw_threads::{Calls, Clock, Gate, Pass, Place, Reply, Step, StepFault, lose_client, make_call};
+use gw_threads::{
+    Calls, Clock, Course, Gate, Pass, Place, Reply, Step, StepFault, lose_client, make_call,
+};
 use iec_apci::{ApciFault, Apdu, ApduFeed};
 use std::alloc::Global;
 use std::sync::Wait;
-use std::sync::ledger::Ledger;
 
 /// How many octets are read at once.
 const PIECE: usize = 4096;
 
 /// What the reader of a client works with.
 #[derive(Drop)]
-struct Reading<'a, L: Ledger, S: Calls<L>, R: Wait, C: Clock, G: Gate> {
+struct Reading<'a, L: Course, S: Calls<L>, R: Wait, C: Clock, G: Gate> {
     rt: &'a R,
     shared: &'a S,
     pass: Pass<L>,
@@ -26,7 +27,7 @@ struct Reading<'a, L: Ledger, S: Calls<L>, R: Wait, C: Clock, G: Gate> {
 /// Makes a step of each APDU that comes from a client, until its octets end or are none, the core closes the
 /// connection, or the client isn't up any more. What ends the connection is told to the core, unless the core ended
 /// it.
-pub fn client_reader<'a, L: Ledger, S: Calls<L>, R: Wait, I: Incoming, C: Clock, G: Gate>(
+pub fn client_reader<'a, L: Course, S: Calls<L>, R: Wait, I: Incoming, C: Clock, G: Gate>(
     alloc: Global,
     rt: &'a R,
     shared: &'a S,
@@ -56,7 +57,7 @@ pub fn client_reader<'a, L: Ledger, S: Calls<L>, R: Wait, I: Incoming, C: Clock,
     (pass, end)
 }
 
-impl<'a, L: Ledger, S: Calls<L>, R: Wait, C: Clock, G: Gate> Reading<'a, L, S, R, C, G> {
+impl<'a, L: Course, S: Calls<L>, R: Wait, C: Clock, G: Gate> Reading<'a, L, S, R, C, G> {
     /// Piece after piece, until the worker is to end.
     fn read_on<I: Incoming>(&mut self, feed: &mut ApduFeed, input: &mut I) -> WorkerEnd
         ensures own { self.new.pass.actor ≡ self.old.pass.actor }

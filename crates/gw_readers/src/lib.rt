@@ -8,9 +8,10 @@ mod outstation_reading;
 
 pub use client_reading::client_reader;
 pub use gw_threads::{
-    Arrival, Batch, Call, Calls, Clock, CloseFault, Closed, Entry, Figures, Gate, Incoming, Kept,
-    KeptStep, Line, Machine, OpenGate, Outgoing, Pass, Place, Pumped, Put, Recorder, Reply, Run,
-    Shared, Step, StepFault, Unwritten, Why, WorkerEnd, apdu_in, client_writer, clock, make_call,
+    Arrival, Batch, Bell, Call, Calls, Clock, CloseFault, Closed, Course, Entry, Figures, Front,
+    Gate, Head, Incoming, Kept, KeptStep, Line, LineCourse, Load, Machine, Made, OpenGate, Opened,
+    Outgoing, Pass, Place, Pumped, Put, Recorder, Reply, Run, Sending, Shared, Step, StepFault,
+    Unwritten, Why, WorkerEnd, apdu_in, client_writer, clock, make_call, open_course,
     outstation_writer, pause, put_out,
 };
 pub use outstation_reading::{Patience, outstation_reader};

@@ -1,18 +1,18 @@
 //! The reader of an outstation.
-ghost use Rattle.std.specs.Prelude.{◌≡◌, ◌≤◌, ◌||◌, length, IfSome, Some};
-ghost use Rattle.gw_ends.specs.Ends.{is_read_fault, IsOfFrames, MayEndBetween};
+ghost use Rattle.std.specs.Prelude.{◌≡◌, ◌≤◌, ◌||◌, [], ◌∷◌, length, IfSome, MatchOption, Some};
+ghost use Rattle.gw_ends.specs.Ends.{is_read_fault, is_write_fault, IsOfFrames, MayEndBetween};
+ghost use Rattle.gw_readers.specs.Confirms.{confirmation_in, Confirms, ReadsAll, ReadsOn};
 
 use dnp_app::{AppFault, Response, read_response};
 use dnp_link::{Frame, LinkEvent, LinkFeed};
 use dnp_receive::Receiver;
-use gw_ends::{Arrival, Incoming, Line, Outgoing, WorkerEnd};
+use gw_ends::{Arrival, Front, Incoming, Line, LineCourse, Outgoing, Sending, WorkerEnd};
 use gw_threads::{
-    Bell, Calls, Clock, Gate, Pass, Place, Reply, Step, StepFault, Verdict, lose_outstation,
-    make_call,
+    Bell, Calls, Clock, Course, Gate, Pass, Place, Reply, Step, StepFault, Verdict,
+    lose_outstation, make_call,
 };
 use std::alloc::Global;
 use std::sync::Wait;
-use std::sync::ledger::Ledger;
 use std::time::Duration;
 
 /// How many octets are read at once.
@@ -35,13 +35,25 @@ pub struct Patience {
 
 /// What the reader of an outstation works with.
 #[derive(Drop)]
-struct Reading<'a, 'b, L: Ledger, S: Calls<L>, R: Wait, W: Outgoing, C: Clock, G: Gate> {
+struct Reading<
+    'a,
+    'b,
+    L: Course,
+    N: LineCourse,
+    S: Calls<L>,
+    R: Wait,
+    W: Outgoing,
+    C: Clock,
+    G: Gate,
+> {
     alloc: Global,
     rt: &'a R,
     shared: &'a S,
     pass: Pass<L>,
     outstation: u8,
-    line: &'b Line<W>,
+    line: &'b Line<W, N>,
+    /// What of the line's history it has seen.
+    front: Front<Sending, N>,
     clock: &'a C,
     gate: &'a G,
     patience: Patience,
@@ -59,7 +71,8 @@ struct Reading<'a, 'b, L: Ledger, S: Calls<L>, R: Wait, W: Outgoing, C: Clock, G
 pub fn outstation_reader<
     'a,
     'b,
-    L: Ledger,
+    L: Course,
+    N: LineCourse,
     S: Calls<L>,
     R: Wait,
     I: Incoming,
@@ -74,15 +87,17 @@ pub fn outstation_reader<
     outstation: u8,
     receiver: Receiver,
     input: &mut I,
-    line: &'b Line<W>,
+    line: &'b Line<W, N>,
     clock: &'a C,
     gate: &'a G,
     patience: Patience,
-) -> (Pass<L>, WorkerEnd)
+) -> (Pass<L>, Front<Sending, N>, WorkerEnd)
     ensures own { result.0.actor ≡ pass.actor }
-    ensures end { MayEndBetween W.has_failed result.1 }
+    // It ended by a failed write exactly where something that it sent wasn't taken whole.
+    ensures confirmed { ReadsOn L.setup pass result.0 result.1 (is_write_fault (Some result.2)) }
+    ensures end { MayEndBetween result.2 }
     // It ended by a failed read exactly where one failed, unless one had before.
-    ensures failed { I.has_failed input.new ≡ (is_read_fault (Some result.1) || I.has_failed input.old) }
+    ensures failed { I.has_failed input.new ≡ (is_read_fault (Some result.2) || I.has_failed input.old) }
 {
     let mut reading = Reading {
         alloc,
@@ -91,6 +106,7 @@ pub fn outstation_reader<
         pass,
         outstation,
         line,
+        front: line.join(rt),
         clock,
         gate,
         patience,
@@ -101,20 +117,21 @@ pub fn outstation_reader<
     let mut receiver = receiver;
     let end = reading.read_on(&mut feed, &mut receiver, input);
     lose_outstation(rt, shared, &mut reading.pass, outstation, clock, gate);
-    let Reading { pass, .. } = reading;
-    (pass, end)
+    let Reading { pass, front, .. } = reading;
+    (pass, front, end)
 }
 
-impl<'a, 'b, L: Ledger, S: Calls<L>, R: Wait, W: Outgoing, C: Clock, G: Gate> Reading<
+impl<
     'a,
     'b,
-    L,
-    S,
-    R,
-    W,
-    C,
-    G,
-> {
+    L: Course,
+    N: LineCourse,
+    S: Calls<L>,
+    R: Wait,
+    W: Outgoing,
+    C: Clock,
+    G: Gate,
+> Reading<'a, 'b, L, N, S, R, W, C, G> {
     /// Piece after piece, until the worker is to end.
     fn read_on<I: Incoming>(
         &mut self,
@@ -122,8 +139,9 @@ impl<'a, 'b, L: Ledger, S: Calls<L>, R: Wait, W: Outgoing, C: Clock, G: Gate> Re
         receiver: &mut Receiver,
         input: &mut I,
     ) -> WorkerEnd
-        ensures own { self.new.pass.actor ≡ self.old.pass.actor }
-        ensures end { MayEndBetween W.has_failed result }
+        ensures confirmed { ReadsAll L.setup self.old.pass self.new.pass self.old.front self.new.front
+            (is_write_fault (Some result)) }
+        ensures end { MayEndBetween result }
         ensures failed { I.has_failed input.new ≡ (is_read_fault (Some result) || I.has_failed input.old) }
     {
         let mut buffer = [0; PIECE];
@@ -136,7 +154,7 @@ impl<'a, 'b, L: Ledger, S: Calls<L>, R: Wait, W: Outgoing, C: Clock, G: Gate> Re
     }
 
     /// One piece. How the worker ends, if it does.
-    #[tactic(auto, using(gw_ends::proofs::Failed::reading_fails, gw_ends::proofs::Failed::frames_read))]
+    #[tactic(auto, using(gw_ends::proofs::Failed::reading_fails, gw_ends::proofs::Failed::frames_read, crate::proofs::Confirming::reads_none))]
     fn read<I: Incoming>(
         &mut self,
         feed: &mut LinkFeed,
@@ -144,8 +162,9 @@ impl<'a, 'b, L: Ledger, S: Calls<L>, R: Wait, W: Outgoing, C: Clock, G: Gate> Re
         input: &mut I,
         buffer: &mut [u8],
     ) -> Option<WorkerEnd>
-        ensures own { self.new.pass.actor ≡ self.old.pass.actor }
-        ensures end { IfSome result (MayEndBetween W.has_failed) }
+        ensures confirmed { ReadsAll L.setup self.old.pass self.new.pass self.old.front self.new.front
+            (is_write_fault result) }
+        ensures end { IfSome result MayEndBetween }
         ensures failed { I.has_failed input.new ≡ (is_read_fault result || I.has_failed input.old) }
     {
         let arrival = input.receive(buffer);
@@ -178,8 +197,9 @@ impl<'a, 'b, L: Ledger, S: Calls<L>, R: Wait, W: Outgoing, C: Clock, G: Gate> Re
         receiver: &mut Receiver,
         piece: &[u8],
     ) -> Option<WorkerEnd>
-        ensures own { self.new.pass.actor ≡ self.old.pass.actor }
-        ensures end { IfSome result (IsOfFrames W.has_failed) }
+        ensures confirmed { ReadsAll L.setup self.old.pass self.new.pass self.old.front self.new.front
+            (is_write_fault result) }
+        ensures end { IfSome result IsOfFrames }
     {
         if feed.feed(piece).is_err() {
             return Some(WorkerEnd::Memory);
@@ -203,27 +223,47 @@ impl<'a, 'b, L: Ledger, S: Calls<L>, R: Wait, W: Outgoing, C: Clock, G: Gate> Re
 
     /// Takes a frame: sends the reply that the link owes, and takes the fragment that it completes. How the worker
     /// ends, if it does.
+    #[tactic(auto, using(crate::proofs::Confirming::reads_none))]
     fn take_frame(&mut self, receiver: &mut Receiver, frame: &Frame) -> Option<WorkerEnd>
-        ensures own { self.new.pass.actor ≡ self.old.pass.actor }
-        ensures end { IfSome result (IsOfFrames W.has_failed) }
+        ensures confirmed { ReadsAll L.setup self.old.pass self.new.pass self.old.front self.new.front
+            (is_write_fault result) }
+        ensures end { IfSome result IsOfFrames }
     {
         let Ok(received) = receiver.take(frame) else {
             return Some(WorkerEnd::Memory);
         };
-        if let Some(reply) = &received.reply {
-            self.gate.at(self.pass.actor(), Place::BeforeWrite);
-            if self.line.reply(self.rt, reply).is_err() {
-                return Some(WorkerEnd::WriteFault);
-            }
+        if let Some(end) = self.answer_link(&received.reply) {
+            return Some(end);
         }
         self.take_fragment(received.fragment?)
     }
 
+    /// Sends the reply that the link owes, if it owes one. How the worker ends, if it does.
+    #[tactic(auto, using(crate::proofs::Confirming::reads_none))]
+    fn answer_link(&mut self, reply: &Option<[u8; 10]>) -> Option<WorkerEnd>
+        ensures confirmed { ReadsAll L.setup self.old.pass self.new.pass self.old.front self.new.front
+            (is_write_fault result) }
+        ensures end { IfSome result IsOfFrames }
+    {
+        match reply {
+            Some(frame) => {
+                self.gate.at(self.pass.actor(), Place::BeforeWrite);
+                match self.line.reply(self.rt, &mut self.front, frame) {
+                    Ok(()) => None,
+                    Err(_) => Some(WorkerEnd::WriteFault),
+                }
+            }
+            None => None,
+        }
+    }
+
     /// Takes a fragment: its response, unless it is refused. How the worker ends, if it does.
+    #[tactic(auto, using(crate::proofs::Confirming::reads_none))]
     fn take_fragment(&mut self, octets: Vec<u8>) -> Option<WorkerEnd>
         requires { length octets.items ≤ 2048 }
-        ensures own { self.new.pass.actor ≡ self.old.pass.actor }
-        ensures end { IfSome result (IsOfFrames W.has_failed) }
+        ensures confirmed { ReadsAll L.setup self.old.pass self.new.pass self.old.front self.new.front
+            (is_write_fault result) }
+        ensures end { IfSome result IsOfFrames }
     {
         let count = octets.len();
         self.recent[..count].copy_from_slice(octets.as_slice());
@@ -251,8 +291,9 @@ impl<'a, 'b, L: Ledger, S: Calls<L>, R: Wait, W: Outgoing, C: Clock, G: Gate> Re
 
     /// Makes the step of a response, and sends its confirmation where one is owed. How the worker ends, if it does.
     fn step(&mut self, response: Response) -> Option<WorkerEnd>
-        ensures own { self.new.pass.actor ≡ self.old.pass.actor }
-        ensures end { IfSome result (IsOfFrames W.has_failed) }
+        ensures confirmed { ReadsAll L.setup self.old.pass self.new.pass self.old.front self.new.front
+            (is_write_fault result) }
+        ensures end { IfSome result IsOfFrames }
     {
         let actor = self.pass.actor();
         let asks = response.control().con;
@@ -261,14 +302,7 @@ impl<'a, 'b, L: Ledger, S: Calls<L>, R: Wait, W: Outgoing, C: Clock, G: Gate> Re
         if asks {
             self.line.owe(self.rt);
         }
-        let moment = self.clock.moment();
-        let step = Step::Fragment { response, moment };
-        let reply = make_call(self.rt, self.shared, &mut self.pass, step, self.gate);
-        self.gate.at(actor, Place::Stepped);
-        if is_taken(&reply) {
-            self.heard = moment;
-        }
-        let end = self.confirm(&reply);
+        let end = self.ask(response);
         if asks {
             self.line.settle(self.rt);
         }
@@ -276,6 +310,30 @@ impl<'a, 'b, L: Ledger, S: Calls<L>, R: Wait, W: Outgoing, C: Clock, G: Gate> Re
             self.wait_for_clients(size);
         }
         end
+    }
+
+    /// Makes the step of a response, and sends its confirmation where one is owed. How the worker ends, if it does.
+    fn ask(&mut self, response: Response) -> Option<WorkerEnd>
+        ensures confirmed { ReadsAll L.setup self.old.pass self.new.pass self.old.front self.new.front
+            (is_write_fault result) }
+        ensures end { IfSome result IsOfFrames }
+    {
+        let moment = self.clock.moment();
+        let step = Step::Fragment { response, moment };
+        let reply = make_call(self.rt, self.shared, &mut self.pass, step, self.gate);
+        self.gate.at(self.pass.actor(), Place::Stepped);
+        self.hear(&reply, moment);
+        self.confirm(&reply)
+    }
+
+    /// Keeps the moment, where the core took a fragment.
+    fn hear(&mut self, reply: &Result<Reply, StepFault>, moment: u64)
+        ensures pass { self.new.pass ≡ self.old.pass }
+        ensures front { self.new.front ≡ self.old.front }
+    {
+        if is_taken(reply) {
+            self.heard = moment;
+        }
     }
 
     /// Waits until the clients that read keep up with the last fragment, which told of so many observations.
@@ -295,21 +353,47 @@ impl<'a, 'b, L: Ledger, S: Calls<L>, R: Wait, W: Outgoing, C: Clock, G: Gate> Re
     }
 
     /// Sends the confirmation that a reply of the core owes, if it owes one. How the worker ends, if it does.
-    fn confirm(&self, reply: &Result<Reply, StepFault>) -> Option<WorkerEnd>
-        ensures { IfSome result (IsOfFrames W.has_failed) }
+    fn confirm(&mut self, reply: &Result<Reply, StepFault>) -> Option<WorkerEnd>
+        ensures confirmed { Confirms reply.now self.old.front self.new.front (is_write_fault result) }
+        ensures pass { self.new.pass ≡ self.old.pass }
+        ensures end { IfSome result IsOfFrames }
     {
-        let octets = match reply {
-            Ok(Reply::Verdict(Verdict::Accepted { confirm, .. } | Verdict::Repeated { confirm })) =>
-                { (*confirm)? }
-            Ok(_) => return None,
-            Err(StepFault::Memory) => return Some(WorkerEnd::Memory),
-            Err(_) => return Some(WorkerEnd::Stopping),
-        };
-        self.gate.at(self.pass.actor(), Place::BeforeWrite);
-        match self.line.confirm(self.rt, &octets) {
-            Ok(()) => None,
-            Err(_) => Some(WorkerEnd::WriteFault),
+        match owed_by(reply) {
+            Some(octets) => {
+                self.gate.at(self.pass.actor(), Place::BeforeWrite);
+                match self.line.confirm(self.rt, &mut self.front, &octets) {
+                    Ok(()) => None,
+                    Err(_) => Some(WorkerEnd::WriteFault),
+                }
+            }
+            None => match reply {
+                Ok(_) => None,
+                Err(StepFault::Memory) => Some(WorkerEnd::Memory),
+                Err(_) => Some(WorkerEnd::Stopping),
+            },
         }
+    }
+}
+
+/// The confirmation that a reply of the core owes, if it owes one.
+fn owed_by(reply: &Result<Reply, StepFault>) -> Option<[u8; 2]>
+    ensures { MatchOption result (confirmation_in reply.now ≡ []) (λ octets. confirmation_in reply.now ≡ octets ∷ []) }
+{
+    match reply {
+        Ok(Reply::Verdict(Verdict::Accepted { confirm, .. } | Verdict::Repeated { confirm })) => {
+            *confirm
+        }
+        Ok(
+            Reply::Verdict(Verdict::Ignored(_))
+            | Reply::Done
+            | Reply::Request(_)
+            | Reply::Apdu(_)
+            | Reply::Taken
+            | Reply::Closed(_)
+            | Reply::Nothing
+            | Reply::Ticked { .. },
+        )
+        | Err(_) => None,
     }
 }
 

@@ -2,16 +2,15 @@
 
 use gw_clock::Clock;
 use gw_connections::{
-    Calls, Gate, Host, House, Pass, Passes, clock, look_out, serve_outstation, serve_place,
+    Calls, Course, Gate, Host, House, Pass, Passes, clock, look_out, serve_outstation, serve_place,
 };
 use gw_model::Memory;
 use gw_peers::{Lobby, await_end};
 use gw_watch::{CLIENTS, Site, serve_status};
-use std::sync::ledger::Ledger;
 
 /// What one thread does, until the server ends.
 #[derive(Drop)]
-pub enum Duty<L: Ledger> {
+pub enum Duty<L: Course> {
     /// Writes the journal.
     Journal,
     /// Tells what is due once in a while.
@@ -30,13 +29,13 @@ pub enum Duty<L: Ledger> {
 
 /// The passes that a thread gives back.
 #[derive(Drop)]
-pub enum Returned<L: Ledger> {
+pub enum Returned<L: Course> {
     Nothing,
     One(Pass<L>),
     Both(Passes<L>),
 }
 
-impl<L: Ledger + Send + Sync> Duty<L> {
+impl<L: Course + Send + Sync> Duty<L> {
     /// Does it.
     pub fn perform<S: Calls<L> + Sync, R: Host, C: Clock + Sync, G: Gate + Sync>(
         self,
@@ -69,7 +68,7 @@ impl<L: Ledger + Send + Sync> Duty<L> {
     }
 }
 
-impl<L: Ledger> Returned<L> {
+impl<L: Course> Returned<L> {
     /// Puts them among others.
     pub fn give(self, passes: &mut Vec<Pass<L>>) {
         match self {
@@ -90,7 +89,7 @@ impl<L: Ledger> Returned<L> {
 /// those of the places and of the outstations, the last ones first, the clock's, that of the status, where it is
 /// served, the lookout's and the journal's. `passes` are those of the outstations' readers and writers, of the
 /// clients' readers and writers, and the clock's; they are used up.
-pub fn add_duties<L: Ledger>(
+pub fn add_duties<L: Course>(
     duties: &mut Vec<Duty<L>>,
     passes: &mut Vec<Pass<L>>,
     site: &Site<'_>,
@@ -104,7 +103,7 @@ pub fn add_duties<L: Ledger>(
 }
 
 /// Adds the duties of standard input, of the places and of the outstations.
-fn add_peers<L: Ledger>(
+fn add_peers<L: Course>(
     duties: &mut Vec<Duty<L>>,
     passes: &mut Vec<Pass<L>>,
     site: &Site<'_>,
@@ -122,7 +121,7 @@ fn add_peers<L: Ledger>(
 }
 
 /// Adds the duties of the status, the lookout and the journal.
-fn add_others<L: Ledger>(duties: &mut Vec<Duty<L>>, site: &Site<'_>) -> Result<(), Memory> {
+fn add_others<L: Course>(duties: &mut Vec<Duty<L>>, site: &Site<'_>) -> Result<(), Memory> {
     if site.status.is_some() {
         add(duties, Duty::Status)?;
     }
@@ -131,13 +130,13 @@ fn add_others<L: Ledger>(duties: &mut Vec<Duty<L>>, site: &Site<'_>) -> Result<(
 }
 
 /// Adds a duty.
-fn add<L: Ledger>(duties: &mut Vec<Duty<L>>, duty: Duty<L>) -> Result<(), Memory> {
+fn add<L: Course>(duties: &mut Vec<Duty<L>>, duty: Duty<L>) -> Result<(), Memory> {
     duties.push(duty)?;
     Ok(())
 }
 
 /// The last two actors' passes, of which the writer's stands behind the reader's.
-fn last_two<L: Ledger>(passes: &mut Vec<Pass<L>>) -> Result<Passes<L>, Memory> {
+fn last_two<L: Course>(passes: &mut Vec<Pass<L>>) -> Result<Passes<L>, Memory> {
     match (passes.pop(), passes.pop()) {
         (Some(writer), Some(reader)) => Ok(Passes { reader, writer }),
         _ => Err(Memory),

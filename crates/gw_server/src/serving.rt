@@ -1,24 +1,28 @@
 //! The whole server.
 ghost use Rattle.std.specs.Prelude.{◌≡◌, ◌<◌, IfOk};
 ghost use Rattle.std.specs.Thread.{IsSend, IsSync};
+ghost use Rattle.gw_running.specs.Kept.{IsKeptRun};
+ghost use Rattle.gw_shared.specs.Reached.{IsFirst};
 
 use crate::duty::{Duty, Returned, add_duties};
 use crate::options::Options;
 use gw_clock::Clock;
 use gw_connections::{
-    ANY_TIME, Calls, Closed, Gate, Host, House, Pass, Shared, look_at_outstations,
+    ANY_TIME, Calls, Closed, Course, Gate, Host, House, Pass, Shared, look_at_outstations,
 };
 use gw_hub::Hub;
 use gw_journal::{Journal, JournalEvent};
 use gw_map::Settings;
 use gw_model::Memory;
 use gw_peers::{Board, Desk, Lobby, Plan, accept, plans_of};
+use gw_running::close;
+use gw_shared::{Made, Opened, open_course};
 use gw_watch::{CLIENTS, Site, Watched};
 use std::alloc::Global;
 use std::io;
 use std::marker::Brand;
 use std::net::TcpListener;
-use std::sync::ledger::{Blank, Ledger};
+use std::sync::ledger::Blank;
 use std::thread::{self, JoinHandle, Scope, Threads};
 
 /// Listens where the settings say.
@@ -27,7 +31,8 @@ pub fn open<R: Host>(rt: &R, settings: &Settings) -> io::Result<TcpListener> {
 }
 
 /// Serves control centres on a listener, and outstations, as settings say: until so many connections of control centres
-/// have ended, or for ever. Gives how many calls were made on the core. What happens is told on standard error.
+/// have ended, or for ever. Gives how many calls were made on the core: in one history of steps, from the first state,
+/// at each place of which all promises hold that `Hub::run` makes. What happens is told on standard error.
 ///
 /// # Errors
 ///
@@ -40,7 +45,9 @@ pub fn serve<R: Host, C: Clock + Sync, G: Gate + Sync>(
     sessions: Option<u32>,
     clock: &C,
     gate: &G,
-) -> Result<Closed, Memory> {
+) -> Result<Closed, Memory>
+    ensures { IfOk result (λ closed. IsKeptRun settings closed.total) }
+{
     let journal = journal_of(alloc, &settings, false)?;
     let options = Options {
         version: "",
@@ -81,7 +88,9 @@ pub fn serve_as<R: Host, C: Clock + Sync, G: Gate + Sync>(
     journal: &Journal,
     clock: &C,
     gate: &G,
-) -> Result<Closed, Memory> {
+) -> Result<Closed, Memory>
+    ensures { IfOk result (λ closed. IsKeptRun settings closed.total) }
+{
     let (plans, board) = plans_and_board(alloc, &settings)?;
     let site = Site {
         door: options.door(listener),
@@ -99,7 +108,10 @@ pub fn serve_as<R: Host, C: Clock + Sync, G: Gate + Sync>(
     };
     let opening = Opening::of(alloc, settings, site.outstations())?;
     let blank = Blank::new(opening.actors as u64);
-    serve_with::<Brand, R, C, G>(&desk, &site, blank, opening, gate)
+    let Some(history) = open_course() else {
+        return Err(Memory);
+    };
+    serve_with::<Brand, R, C, G>(&desk, &site, blank, history, opening, gate)
 }
 
 /// The ways to the outstations, and a board with a card for each of them and for each client.
@@ -120,7 +132,8 @@ struct Opening {
 impl Opening {
     /// That of settings, with so many outstations.
     fn of(alloc: Global, settings: Settings, outstations: u8) -> Result<Opening, Memory>
-        ensures { IfOk result (λ opening. (0 < opening.actors) × (0 < opening.capacity)) }
+        ensures some { IfOk result (λ opening. (0 < opening.actors) × (0 < opening.capacity)) }
+        ensures first { IfOk result (λ opening. IsFirst settings opening.hub) }
     {
         let capacity = (settings.station().recorder as usize).max(1);
         let actors = 2 * (usize::from(outstations) + usize::from(CLIENTS)) + 1;
@@ -134,23 +147,29 @@ impl Opening {
 }
 
 /// The same on a ledger of its own.
-fn serve_with<L: Ledger + Send + Sync, R: Host, C: Clock + Sync, G: Gate + Sync>(
+fn serve_with<L: Course + Send + Sync, R: Host, C: Clock + Sync, G: Gate + Sync>(
     desk: &Desk<'_, R, C>,
     site: &Site<'_>,
     blank: Blank,
+    history: Opened<Made>,
     opening: Opening,
     gate: &G,
 ) -> Result<Closed, Memory>
+    requires book { history.seen.book ≡ L.book }
     requires name { blank.name ≡ L.name }
     requires parts { (blank.parts ≡ L.parts) × (blank.parts ≡ opening.actors) }
     requires some { (0 < opening.actors) × (0 < opening.capacity) }
+    requires first { IsFirst L.setup opening.hub }
+    ensures { IfOk result (λ closed. IsKeptRun L.setup closed.total) }
 {
     let Opening {
         hub,
         actors,
         capacity,
     } = opening;
-    let (shared, passes) = Shared::<L, Hub>::new(desk.alloc, blank, hub, actors, capacity)?;
+    let (shared, passes) = Shared::<L, Hub>::new(
+        desk.alloc, blank, history, hub, actors, capacity,
+    )?;
     let watched = Watched { desk, gate };
     let house = House {
         desk,
@@ -161,16 +180,18 @@ fn serve_with<L: Ledger + Send + Sync, R: Host, C: Clock + Sync, G: Gate + Sync>
 }
 
 /// Serves with these passes, which come back and are counted together.
-fn serve_in<L: Ledger + Send + Sync, R: Host, C: Clock + Sync, G: Gate + Sync>(
+fn serve_in<L: Course + Send + Sync, R: Host, C: Clock + Sync, G: Gate + Sync>(
     house: &House<'_, Shared<L, Hub>, R, C, G>,
     site: &Site<'_>,
     passes: Vec<Pass<L>>,
-) -> Result<Closed, Memory> {
+) -> Result<Closed, Memory>
+    ensures { IfOk result (λ closed. IsKeptRun L.setup closed.total) }
+{
     let mut passes = passes;
     let mut duties = Vec::new(house.desk.alloc);
     add_duties(&mut duties, &mut passes, site)?;
     perform_all(house, site, &mut duties, &mut passes)?;
-    match house.shared.close(house.desk.rt, passes) {
+    match close(house.shared, house.desk.rt, passes) {
         Ok(closed) => Ok(closed),
         Err(_) => Err(Memory),
     }
@@ -178,7 +199,7 @@ fn serve_in<L: Ledger + Send + Sync, R: Host, C: Clock + Sync, G: Gate + Sync>(
 
 /// Runs a thread for each duty, the last one first, while clients are accepted; the passes come back.
 fn perform_all<
-    L: Ledger + Send + Sync,
+    L: Course + Send + Sync,
     S: Calls<L> + Sync,
     R: Host,
     C: Clock + Sync,
@@ -216,7 +237,7 @@ fn perform_all<
 fn start_all<
     's,
     E,
-    L: Ledger + Send + Sync + 's,
+    L: Course + Send + Sync + 's,
     S: Calls<L> + Sync,
     R: Host,
     C: Clock + Sync,
@@ -246,7 +267,7 @@ fn start_all<
 /// Lets the threads end once no further client is accepted: those of the places, then the others, and behind what still
 /// waited to be told the journal's. The passes come back. The thread that reads standard input was started last, behind
 /// those of the places, and the journal's first.
-fn end_all<L: Ledger, S: Calls<L>, R: Host, C: Clock, G>(
+fn end_all<L: Course, S: Calls<L>, R: Host, C: Clock, G>(
     house: &House<'_, S, R, C, G>,
     site: &Site<'_>,
     threads: &mut Vec<JoinHandle<Returned<L>>>,
@@ -269,7 +290,7 @@ fn end_all<L: Ledger, S: Calls<L>, R: Host, C: Clock, G>(
 }
 
 /// Waits for the ends of those threads that were started last, so many of them; their passes come back.
-fn join_last<L: Ledger, R: Threads>(
+fn join_last<L: Course, R: Threads>(
     rt: &R,
     threads: &mut Vec<JoinHandle<Returned<L>>>,
     count: usize,

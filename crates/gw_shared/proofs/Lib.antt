@@ -3,3 +3,4 @@ pub mod Passes
 pub mod Turns
 pub mod Pumping
 pub mod Making
+pub mod Reaching

@@ -5,6 +5,7 @@ use Rattle.gw_steps.specs.declared.step.Reply.{Reply}
 use Rattle.gw_steps.specs.declared.step.Reply.TheVariants.{Apdu}
 use Rattle.gw_steps.specs.declared.step.StepFault.{StepFault}
 use Rattle.gw_ends.specs.Octets.{octets_in}
+use Rattle.gw_map.specs.Settings.{Setup}
 use Rattle.gw_shared.specs.Turn.{Core, Pass, Steps}
 
 -- what a call is answered: its number, and the reply
@@ -12,11 +13,11 @@ abbrev pub Answer : Type 0
 Answer = ℕ × Result Reply StepFault
 
 -- calls for one step, one after another, lead from a core and a pass to others, and are answered so
-abbrev pub AreMade : Step → Core → Core → Pass → Pass → List Answer → Type 0
-AreMade step old new mine after [] = (new ≡ old) × (after ≡ mine)
-AreMade step old new mine after (answer ∷ answers) =
+abbrev pub AreMade : Setup → Step → Core → Core → Pass → Pass → List Answer → Type 0
+AreMade setup step old new mine after [] = (new ≡ old) × (after ≡ mine)
+AreMade setup step old new mine after (answer ∷ answers) =
     (mid : Core) × ((between : Pass)
-    × (Steps old mid mine between step answer × AreMade step mid new between after answers))
+    × (Steps setup old mid mine between step answer × AreMade setup step mid new between after answers))
 
 -- the octets of an answer that is an APDU; of another none
 abbrev pub octets_given : Answer → List ℕ
@@ -29,7 +30,7 @@ octets_of [] = []
 octets_of (answer ∷ answers) = octets_given answer ++ octets_of answers
 
 -- calls for one step were made, and of their answers just the APDUs came behind other octets, in their order
-pub record IsMadeInto (step : Step) (old new : Core) (mine after : Pass) (before octets : List ℕ) : Type 0 where
+pub record IsMadeInto (setup : Setup) (step : Step) (old new : Core) (mine after : Pass) (before octets : List ℕ) : Type 0 where
   pub answers : List Answer
-  pub made : AreMade step old new mine after answers
+  pub made : AreMade setup step old new mine after answers
   pub into : octets ≡ before ++ octets_of answers

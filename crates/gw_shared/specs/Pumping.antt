@@ -1,6 +1,5 @@
 -- What pumps for a client are answered with.
-use Rattle.std.specs.Prelude.{◌≡◌, ◌⊎◌, ℕ, ◌+◌, ◌≤◌, ◌<◌, false, List, ◌++◌, length, Option, Some, None, Result, Ok, Err}
-use Rattle.std.specs.List.{AllByRecursion}
+use Rattle.std.specs.Prelude.{◌≡◌, ◌⊎◌, ℕ, ◌+◌, ◌≤◌, ◌<◌, false, List, [], ◌∷◌, ◌++◌, length, Option, Some, None, Result, Ok, Err}
 use Rattle.iec_apci.specs.declared.buffer.ApduBuf.{ApduBuf}
 use Rattle.gw_map.specs.Settings.{Setup}
 use Rattle.gw_steps.specs.declared.step.Step.TheVariants.{Pump}
@@ -14,7 +13,7 @@ use Rattle.gw_steps.specs.Sound.{IsSoundState}
 use Rattle.gw_ends.specs.Octets.{is_apdu, joined, octets_in}
 use Rattle.gw_shared.specs.declared.pumped.Pumped.{Pumped}
 use Rattle.gw_shared.specs.declared.pumped.Pumped.TheVariants.{Ended, More}
-use Rattle.gw_shared.specs.Turn.{Pass}
+use Rattle.gw_shared.specs.Turn.{Answers, Pass}
 
 -- in some sound state a pump of the client is answered so
 pub record IsPumped (client : ℕ) (reply : Result Reply StepFault) : Type 0 where
@@ -29,23 +28,36 @@ pub record IsPumped (client : ℕ) (reply : Result Reply StepFault) : Type 0 whe
 abbrev pub IsGivenTo : ℕ → Result Reply StepFault → Type 0
 IsGivenTo client reply = IsPumped client reply ⊎ (reply ≡ Err Spent)
 
--- APDUs, each the answer to a pump of the client, came behind other octets
-pub record ArePumped (client : ℕ) (before after : List ℕ) : Type 0 where
+-- a call that pumps for the client at some moment was answered so, with some number
+abbrev pub PumpsOnce : Setup → ℕ → Pass → Pass → Result Reply StepFault → Type 0
+PumpsOnce setup client mine after reply =
+    (moment : ℕ) × ((number : ℕ) × Answers setup mine after (Pump client moment) (number, reply))
+
+-- calls that pump for the client, one after another, were answered with these APDUs
+abbrev pub PumpsAll : Setup → ℕ → Pass → List ApduBuf → Pass → Type 0
+PumpsAll setup client mine [] after = mine ≡ after
+PumpsAll setup client mine (apdu ∷ more) after =
+    (mid : Pass) × (PumpsOnce setup client mine mid (Ok (Apdu apdu)) × PumpsAll setup client mid more after)
+
+-- APDUs, the answers to such calls, came behind other octets
+pub record ArePumped (setup : Setup) (client : ℕ) (mine after : Pass) (before octets : List ℕ) : Type 0 where
   pub apdus : List ApduBuf
-  pub pumped : AllByRecursion (λ (apdu : ApduBuf). IsPumped client (Ok (Apdu apdu))) apdus
-  pub octets : after ≡ before ++ joined apdus
+  pub pumped : PumpsAll setup client mine apdus after
+  pub octets_are : octets ≡ before ++ joined apdus
 
 -- and behind them, where the run ended, an answer that is none
-abbrev pub IsPumpedRun : ℕ → List ℕ → List ℕ → Pumped → Type 0
-IsPumpedRun client before after (Ended last) = ArePumped client before after × IsGivenTo client last
-    × (is_apdu last ≡ false)
-IsPumpedRun client before after More = ArePumped client before after
+abbrev pub IsPumpedRun : Setup → ℕ → Pass → Pass → List ℕ → List ℕ → Pumped → Type 0
+IsPumpedRun setup client mine after before octets (Ended last) =
+    (mid : Pass) × (ArePumped setup client mine mid before octets × (PumpsOnce setup client mid after last
+    × (is_apdu last ≡ false)))
+IsPumpedRun setup client mine after before octets More = ArePumped setup client mine after before octets
 
 -- where nothing ended the run, one APDU came
-abbrev pub IsPumpedNext : ℕ → List ℕ → List ℕ → Option Pumped → Type 0
-IsPumpedNext client before after (Some pumped) = IsPumpedRun client before after pumped
-IsPumpedNext client before after None =
-    (apdu : ApduBuf) × (IsPumped client (Ok (Apdu apdu)) × (after ≡ before ++ octets_in apdu))
+abbrev pub IsPumpedNext : Setup → ℕ → Pass → Pass → List ℕ → List ℕ → Option Pumped → Type 0
+IsPumpedNext setup client mine after before octets (Some pumped) =
+    IsPumpedRun setup client mine after before octets pumped
+IsPumpedNext setup client mine after before octets None =
+    (apdu : ApduBuf) × (PumpsOnce setup client mine after (Ok (Apdu apdu)) × (octets ≡ before ++ octets_in apdu))
 
 -- there may be more only where the longest APDU finds no room behind these octets, or 64 calls were made on the pass
 abbrev pub MayGoOn : Pass → Pass → List ℕ → Pumped → Type 0

@@ -1,29 +1,34 @@
 -- What a step under the lock does to the core, and to the pass of whoever asked for it.
-use Rattle.std.specs.Prelude.{◌≡◌, ℕ, ◌+◌, ◌-◌, ◌^◌, ◌<◌, ◌⊎◌, true, false, Result, Err}
+use Rattle.std.specs.Prelude.{◌≡◌, ℕ, ◌+◌, ◌-◌, ◌^◌, ◌<◌, ◌⊎◌, true, false, List, [], ◌∷◌, length, Result, Err}
 use Rattle.gw_steps.specs.declared.step.Step.{Step}
 use Rattle.gw_steps.specs.declared.step.Reply.{Reply}
 use Rattle.gw_steps.specs.declared.step.StepFault.{StepFault}
 use Rattle.gw_steps.specs.declared.step.StepFault.TheVariants.{Spent}
-use Rattle.gw_steps.specs.State.{Hub, State}
+use Rattle.gw_steps.specs.State.{Hub}
 use Rattle.gw_steps.specs.Steps.{Allowed}
 use Rattle.gw_steps.specs.Sound.{IsSoundState}
 use Rattle.gw_map.specs.Settings.{Setup}
+use Rattle.one_log.specs.Follows.{Follows}
+use Rattle.gw_shared.specs.Reached.{Deed, IsCourse, IsReached, entries_of, entry}
 use Rattle.gw_record.specs.Recording.{Recording, is_tape_full, noted, recording_off, rolled}
 
--- the hub under the lock, what is recorded of it, and how many calls were made
+-- the hub under the lock, what is recorded of it, the one history of its calls, newest first, each with its actor, and how
+-- many were made
 pub record Core : Type 0 where
   pub hub : Hub
   pub recording : Recording
+  pub past : List Deed
   pub made : ℕ
 
--- who makes calls, and how many it has made
+-- who makes calls, how many it has made, and what of the one history it has seen, newest first
 pub record Pass : Type 0 where
   pub actor : ℕ
   pub made : ℕ
+  pub seen : List Deed
 
--- the pass of an actor that has made no call
+-- the pass of an actor that has made no call, and has seen nothing
 abbrev pub unused : ℕ → Pass
-unused actor = record { actor = actor; made = 0 }
+unused actor = record { actor = actor; made = 0; seen = [] }
 
 -- the number of the last call that can be counted
 abbrev pub last_call : ℕ
@@ -42,19 +47,27 @@ pub record IsNoted (hub : Hub) (old new : Recording) (actor : ℕ) (step : Step)
   pub made_ready : IsMadeReady hub old ready
   pub noted_so : new ≡ noted ready actor step reply
 
+-- a pass that has made one call more, the newest of this history
+abbrev pub pass_behind : Pass → List Deed → Pass
+pass_behind mine seen = record { actor = mine.actor; made = mine.made + 1; seen = seen }
+
 -- one call: the step that was asked was made on a sound state, and answered as the step relation allows; call, reply
 -- and actor were noted; the call was counted under the lock and on the pass; its number is the count, which no earlier
--- call of the pass had
-pub record IsTurn (old new : Core) (mine after : Pass) (step : Step) (number : ℕ)
+-- call of the pass had. The history goes on by the call, and the pass knows it then; it had known a beginning of it, behind
+-- which its actor made no other call. The hub is the state after that history, which is a run from the first state
+pub record IsTurn (setup : Setup) (old new : Core) (mine after : Pass) (step : Step) (number : ℕ)
     (reply : Result Reply StepFault) : Type 0 where
   pub sound : IsSoundState old.hub.setup old.hub.state
   pub allowed : Allowed old.hub.setup old.hub.state step reply new.hub.state
-  pub setup : new.hub.setup ≡ old.hub.setup
+  pub setup_is : new.hub.setup ≡ old.hub.setup
   pub recorded : IsNoted old.hub old.recording new.recording mine.actor step reply
   pub counted : new.made ≡ old.made + 1
   pub number_is : number ≡ new.made
   pub above : mine.made < number
-  pub pass : after ≡ record mine { made = mine.made + 1 }
+  pub past : new.past ≡ (mine.actor, entry step reply) ∷ old.past
+  pub follows : Follows mine.actor mine.seen old.past
+  pub reached : IsReached setup new.hub new.past new.made
+  pub pass : after ≡ pass_behind mine new.past
 
 -- no further call can be counted: none was made
 pub record IsLast (old new : Core) (mine after : Pass) (number : ℕ) (reply : Result Reply StepFault) : Type 0 where
@@ -64,21 +77,23 @@ pub record IsLast (old new : Core) (mine after : Pass) (number : ℕ) (reply : R
   pub refused : reply ≡ Err Spent
 
 -- a call on a core: where its count can rise it is made, otherwise refused
-abbrev pub Steps : Core → Core → Pass → Pass → Step → ℕ × Result Reply StepFault → Type 0
-Steps old new mine after step answer =
-    (old.made < last_call → IsTurn old new mine after step answer.0 answer.1)
+abbrev pub Steps : Setup → Core → Core → Pass → Pass → Step → ℕ × Result Reply StepFault → Type 0
+Steps setup old new mine after step answer =
+    (old.made < last_call → IsTurn setup old new mine after step answer.0 answer.1)
     × (old.made ≡ last_call → IsLast old new mine after answer.0 answer.1)
 
--- what a caller of the lock knows of a call that was made: in some sound state the step was answered so, its number is
--- above its earlier calls, and it was counted on its pass
-pub record IsAnswered (mine after : Pass) (step : Step) (number : ℕ) (reply : Result Reply StepFault) : Type 0 where
-  pub setup : Setup
-  pub state : State
-  pub sound : IsSoundState setup state
-  pub next : State
-  pub allowed : Allowed setup state step reply next
+-- what a caller of the lock knows of a call that was made: in the one history it comes behind so many others as its number
+-- says, with its step and its reply; that history is a run from the first state. The caller had seen a beginning of it,
+-- behind which its actor made no other call. The number is above its earlier calls, and it was counted on its pass, which
+-- knows the history then
+pub record IsAnswered (setup : Setup) (mine after : Pass) (step : Step) (number : ℕ) (reply : Result Reply StepFault)
+    : Type 0 where
+  pub before : List Deed
+  pub follows : Follows mine.actor mine.seen before
+  pub course : IsCourse setup (entry step reply ∷ entries_of before)
+  pub number_is : number ≡ length before + 1
   pub above : mine.made < number
-  pub pass : after ≡ record mine { made = mine.made + 1 }
+  pub pass : after ≡ pass_behind mine ((mine.actor, entry step reply) ∷ before)
 
 -- the call was refused, since no further one can be counted
 pub record IsRefused (mine after : Pass) (number : ℕ) (reply : Result Reply StepFault) : Type 0 where
@@ -86,6 +101,6 @@ pub record IsRefused (mine after : Pass) (number : ℕ) (reply : Result Reply St
   pub number_is : number ≡ last_call
   pub refused : reply ≡ Err Spent
 
-abbrev pub Answers : Pass → Pass → Step → ℕ × Result Reply StepFault → Type 0
-Answers mine after step answer =
-    IsAnswered mine after step answer.0 answer.1 ⊎ IsRefused mine after answer.0 answer.1
+abbrev pub Answers : Setup → Pass → Pass → Step → ℕ × Result Reply StepFault → Type 0
+Answers setup mine after step answer =
+    IsAnswered setup mine after step answer.0 answer.1 ⊎ IsRefused mine after answer.0 answer.1

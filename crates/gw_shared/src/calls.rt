@@ -3,16 +3,16 @@ ghost use Rattle.std.specs.Prelude.{◌≡◌};
 ghost use Rattle.gw_shared.specs.Pumping.{IsPumpedRun, MayGoOn};
 ghost use Rattle.gw_shared.specs.Turn.{Answers};
 
+use crate::course::Course;
 use crate::pass::Pass;
 use crate::pumped::Pumped;
 use gw_bell::Bell;
 use gw_ends::Batch;
 use gw_record::{Figures, Load, Reply, Step, StepFault};
 use std::sync::Wait;
-use std::sync::ledger::Ledger;
 
 /// What passes make calls on, from many threads.
-pub trait Calls<L: Ledger> {
+pub trait Calls<L: Course> {
     /// Makes a call under the lock (`Core::step`), and wakes those whom the step may serve. Gives the call's number and
     /// its reply.
     fn step<R: Wait>(
@@ -21,7 +21,7 @@ pub trait Calls<L: Ledger> {
         pass: &mut Pass<L>,
         step: Step,
     ) -> (u64, Result<Reply, StepFault>)
-        ensures { Answers pass.old pass.new step result };
+        ensures { Answers L.setup pass.old pass.new step result };
 
     /// Pumps for a client under one hold of the lock (`Core::pump`), which serves nobody else.
     fn pump<R: Wait>(
@@ -32,7 +32,7 @@ pub trait Calls<L: Ledger> {
         moment: u64,
         batch: &mut Batch,
     ) -> Pumped
-        ensures run { IsPumpedRun client batch.old batch.new result }
+        ensures run { IsPumpedRun L.setup client pass.old pass.new batch.old batch.new result }
         ensures more { MayGoOn pass.old pass.new batch.new result }
         ensures own { pass.new.actor ≡ pass.old.actor };
 

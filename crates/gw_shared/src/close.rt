@@ -1,12 +1,14 @@
 //! The end: all passes come back.
 ghost use Rattle.std.specs.Prelude.{◌≡◌, ◌<◌, ◌↔◌, IfErr, IfOk, IsOk, vec_len};
+ghost use Rattle.gw_shared.specs.Reached.{CourseOf};
 ghost use Rattle.gw_shared.specs.Totals.{total_of};
 
+use crate::course::Course;
 use crate::pass::Pass;
 use crate::shared::Shared;
 use gw_record::Machine;
 use std::sync::Wait;
-use std::sync::ledger::{Ledger, Share};
+use std::sync::ledger::Share;
 use thiserror::Error;
 
 /// How many calls were made.
@@ -23,7 +25,7 @@ pub enum CloseFault {
     Missing = 1,
 }
 
-impl<L: Ledger, M: Machine> Shared<L, M> {
+impl<L: Course, M: Machine> Shared<L, M> {
     /// Ends the counting, where all passes of this core are handed over: gives how many calls were made, which is what
     /// they have counted together. Otherwise it gives them back.
     pub fn close<R: Wait>(
@@ -33,6 +35,7 @@ impl<L: Ledger, M: Machine> Shared<L, M> {
     ) -> Result<Closed, (CloseFault, Vec<Pass<L>>)>
         ensures closes { IsOk result ↔ (vec_len passes ≡ L.parts) }
         ensures total { IfOk result (λ closed. closed.total ≡ total_of passes.items) }
+        ensures course { IfOk result (λ closed. CourseOf L.setup closed.total) }
         ensures err { IfErr result (λ e. (e.0 ≡ CloseFault.Missing) × (e.1 ≡ passes)) }
     {
         if passes.len() != self.actors() {
@@ -46,7 +49,7 @@ impl<L: Ledger, M: Machine> Shared<L, M> {
 }
 
 /// The shares of passes, joined.
-fn joined<L: Ledger>(passes: Vec<Pass<L>>) -> Share<L>
+fn joined<L: Course>(passes: Vec<Pass<L>>) -> Share<L>
     requires { 0 < vec_len passes }
     ensures parts { result.parts ≡ vec_len passes }
     ensures amount { result.amount ≡ total_of passes.items }
@@ -60,7 +63,7 @@ fn joined<L: Ledger>(passes: Vec<Pass<L>>) -> Share<L>
 }
 
 /// The share of a pass.
-fn share_of<L: Ledger>(pass: Pass<L>) -> Share<L>
+fn share_of<L: Course>(pass: Pass<L>) -> Share<L>
     ensures parts { result.parts ≡ 1 }
     ensures amount { result.amount ≡ pass.made }
 {
@@ -68,6 +71,7 @@ fn share_of<L: Ledger>(pass: Pass<L>) -> Share<L>
         share,
         actor: _,
         orders: _,
+        front: _,
     } = pass;
     share
 }

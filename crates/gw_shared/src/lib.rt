@@ -5,6 +5,7 @@
 mod bells;
 mod calls;
 mod close;
+mod course;
 mod locked;
 mod pass;
 mod pumped;
@@ -12,12 +13,14 @@ mod shared;
 
 pub use calls::Calls;
 pub use close::{CloseFault, Closed};
+pub use course::{Course, Made, open_course};
 pub use gw_bell::Bell;
 pub use gw_record::{
     Apdu, ApduBuf, Entry, Fate, Figures, Kept, KeptStep, Load, Machine, OrderCounts, Orders,
     Recorder, Reply, Settled, Step, StepFault, Verdict, Why,
 };
 pub use locked::Core;
+pub use one_log::Opened;
 pub use pass::Pass;
 pub use pumped::Pumped;
 pub use shared::Shared;

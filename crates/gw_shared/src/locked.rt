@@ -1,13 +1,16 @@
 //! What lies under the lock.
-ghost use Rattle.std.specs.Prelude.{◌≡◌, ◌↔◌, ◌+◌, ◌<◌, ◌≤◌, Some, true, false, replicate, IfOk, IsTrue};
+ghost use Rattle.std.specs.Prelude.{◌≡◌, ◌↔◌, ◌+◌, ◌<◌, ◌≤◌, [], ◌∷◌, Some, true, false, replicate, IfOk, IsTrue};
 ghost use Rattle.gw_steps.specs.declared.step.Step.TheVariants as steps;
 ghost use Rattle.gw_steps.specs.Sound.{IsSoundState};
 ghost use Rattle.gw_steps.specs.Steps.{client_up, Allowed};
 ghost use Rattle.gw_record.specs.Recording.{is_tape_full, noted, tape_on};
 ghost use Rattle.gw_shared.specs.Made.{IsMadeInto};
+ghost use Rattle.one_log.specs.Follows.{Follows};
+ghost use Rattle.gw_shared.specs.Reached.{entry, IsFirst, IsReached};
 ghost use Rattle.gw_shared.specs.Pumping.{GoesOn, IsPumpedNext, IsPumpedRun, MayGoOn};
-ghost use Rattle.gw_shared.specs.Turn.{last_call, Answers, IsMadeReady, Steps};
+ghost use Rattle.gw_shared.specs.Turn.{last_call, pass_behind, Answers, IsMadeReady, Steps};
 
+use crate::course::{Course, Made};
 use crate::pass::Pass;
 use crate::pumped::Pumped;
 use gw_ends::{Batch, LONGEST_APDU, apdu_in};
@@ -16,9 +19,10 @@ use gw_record::{
     Awake, Dropped, Fates, Figures, Load, Machine, Pace, Recorder, Reply, Roused, Step, StepFault,
     Topic, Watch,
 };
+use one_log::Head;
 use std::alloc::Global;
 use std::marker::Model;
-use std::sync::ledger::{Book, Ledger, Share};
+use std::sync::ledger::{Book, Share};
 
 /// How many pumps are made at most before others may take the lock.
 const MOST_PUMPS: u32 = 64;
@@ -26,29 +30,33 @@ const MOST_PUMPS: u32 = 64;
 /// A machine with its recorder, the count of calls, and the book of all passes' counts; what was dropped for clients,
 /// which writers are awake, how clients keep up, and what became of orders, which no contract sees.
 #[derive(Drop)]
-pub struct Core<L: Ledger, M: Machine> {
+pub struct Core<L: Course, M: Machine> {
     machine: M,
     recorder: Recorder<M>,
     made: u64,
     book: Book<L>,
+    head: Head<Made, L>,
     dropped: Dropped,
     awake: Awake,
     pace: Pace,
     fates: Fates,
 }
 
-impl<L: Ledger, M: Machine> Model for Core<L, M> {
+impl<L: Course, M: Machine> Model for Core<L, M> {
     ghost use Rattle.std.specs.Prelude.{◌≡◌, length, sum};
     ghost use Rattle.gw_record.specs.Recording.{Replays};
+    ghost use Rattle.gw_shared.specs.Reached.{IsReached};
     ghost use Rattle.gw_shared.specs.Turn.{Core as Seen};
 
     ghost Value = { Seen };
 
-    ghost view = { λ c. record { hub = M.seen c.machine; recording = c.recorder; made = c.made } };
+    ghost view = { λ c. record { hub = M.seen c.machine; recording = c.recorder; past = c.head.log; made = c.made } };
 
-    // The machine is what the recorder's tape replays to; all calls are counted in the book, and by actor.
+    // The machine is what the recorder's tape replays to, and came from a run of as many steps as calls were made; all
+    // calls are counted in the book, and by actor.
     ghost invariant = { λ c. (c.made ≡ c.book.total) × (length c.recorder.counts ≡ L.parts)
-        × (sum c.recorder.counts ≡ c.made) × Replays c.recorder.tape (M.seen c.machine) };
+        × (sum c.recorder.counts ≡ c.made) × Replays c.recorder.tape (M.seen c.machine)
+        × IsReached L.setup (M.seen c.machine) c.head.log c.made };
 }
 
 /// The recorder of a machine on which no call was made, and what becomes of orders.
@@ -68,16 +76,19 @@ fn records_of<M: Machine>(
     Ok((recorder, fates))
 }
 
-impl<L: Ledger, M: Machine> Core<L, M> {
+impl<L: Course, M: Machine> Core<L, M> {
     /// A core on which no call was made.
     pub fn new(
         alloc: Global,
         machine: M,
         book: Book<L>,
+        head: Head<Made, L>,
         actors: usize,
         capacity: usize,
     ) -> Result<Core<L, M>, Memory>
         requires fresh { book.total ≡ 0 }
+        requires first { IsFirst L.setup (M.seen machine) }
+        requires head { head.log ≡ [] }
         requires actors { actors ≡ L.parts }
         requires capacity { 0 < capacity }
         ensures hub { IfOk result (λ core. core.hub ≡ M.seen machine) }
@@ -89,6 +100,7 @@ impl<L: Ledger, M: Machine> Core<L, M> {
             recorder,
             made: 0,
             book,
+            head,
             dropped: Dropped::new(),
             awake: Awake::nobody(),
             pace: Pace::new(),
@@ -99,7 +111,7 @@ impl<L: Ledger, M: Machine> Core<L, M> {
     /// Makes a call: the step is made on the machine and noted with its reply. Gives the call's number, counted over
     /// all passes from 1. Where no further call can be counted nothing is made, and the answer is `Spent`.
     pub fn step(&mut self, pass: &mut Pass<L>, step: Step) -> (u64, Result<Reply, StepFault>)
-        ensures step { Steps self.old self.new pass.old pass.new step result }
+        ensures step { Steps L.setup self.old self.new pass.old pass.new step result }
         ensures counted { self.old.made ≤ last_call }
     {
         if self.made == u64::MAX {
@@ -130,8 +142,8 @@ impl<L: Ledger, M: Machine> Core<L, M> {
         pass: &mut Pass<L>,
         step: Step,
     ) -> ((u64, Result<Reply, StepFault>), Roused)
-        ensures step { Steps self.old self.new pass.old pass.new step result.0 }
-        ensures answers { Answers pass.old pass.new step result.0 }
+        ensures step { Steps L.setup self.old self.new pass.old pass.new step result.0 }
+        ensures answers { Answers L.setup pass.old pass.new step result.0 }
     {
         let topic = Topic::of(&step);
         self.foresee(topic);
@@ -169,8 +181,8 @@ impl<L: Ledger, M: Machine> Core<L, M> {
     /// Pumps for a client at a moment, one call after another, and puts the APDUs into a batch: until an answer is
     /// none, or there is no room for one more.
     pub fn pump(&mut self, pass: &mut Pass<L>, client: u8, moment: u64, batch: &mut Batch) -> Pumped
-        ensures made { IsMadeInto (steps.Pump client moment) self.old self.new pass.old pass.new batch.old batch.new }
-        ensures run { IsPumpedRun client batch.old batch.new result }
+        ensures made { IsMadeInto L.setup (steps.Pump client moment) self.old self.new pass.old pass.new batch.old batch.new }
+        ensures run { IsPumpedRun L.setup client pass.old pass.new batch.old batch.new result }
         ensures more { MayGoOn pass.old pass.new batch.new result }
         ensures own { pass.new.actor ≡ pass.old.actor }
     {
@@ -191,8 +203,8 @@ impl<L: Ledger, M: Machine> Core<L, M> {
         moment: u64,
         batch: &mut Batch,
     ) -> Option<Pumped>
-        ensures made { IsMadeInto (steps.Pump client moment) self.old self.new pass.old pass.new batch.old batch.new }
-        ensures run { IsPumpedNext client batch.old batch.new result }
+        ensures made { IsMadeInto L.setup (steps.Pump client moment) self.old self.new pass.old pass.new batch.old batch.new }
+        ensures run { IsPumpedNext L.setup client pass.old pass.new batch.old batch.new result }
         ensures more { GoesOn pass.old pass.new batch.new result }
         ensures own { pass.new.actor ≡ pass.old.actor }
     {
@@ -217,6 +229,7 @@ impl<L: Ledger, M: Machine> Core<L, M> {
         ensures room { is_tape_full self.new.recording.tape ≡ false }
         ensures hub { self.new.hub ≡ self.old.hub }
         ensures made { self.new.made ≡ self.old.made }
+        ensures past { self.new.past ≡ self.old.past }
     {
         if self.recorder.is_full() {
             if let Err(refused) = self.recorder.roll(&self.machine) {
@@ -235,15 +248,28 @@ impl<L: Ledger, M: Machine> Core<L, M> {
         ensures noted { self.new.recording ≡ noted self.old.recording pass.old.actor step result.1 }
         ensures made { self.new.made ≡ self.old.made + 1 }
         ensures number { result.0 ≡ self.new.made }
+        ensures past { self.new.past ≡ (pass.old.actor, entry step result.1) ∷ self.old.past }
+        ensures follows { Follows pass.old.actor pass.old.seen self.old.past }
+        ensures reached { IsReached L.setup self.new.hub self.new.past self.new.made }
         ensures above { pass.old.made < result.0 }
-        ensures pass { pass.new ≡ record pass.old { made = pass.old.made + 1 } }
+        ensures pass { pass.new ≡ pass_behind pass.old self.new.past }
     {
+        step.attest();
         self.book.audit(&mut pass.share);
         self.book.add(&mut pass.share, 1);
         let reply = self.machine.step(&step);
+        let made = self.head.add(Made { step, reply }, &mut pass.front);
+        let Made { step, reply: _ } = made;
         self.recorder.note(pass.actor, step, reply);
         self.made += 1;
         (self.made, reply)
+    }
+
+    /// Tells a proof what a core keeps of its hub: a run of as many steps as calls were made led to it. It does nothing.
+    pub fn attest(&self)
+        ensures { IsReached L.setup self.now.hub self.now.past self.now.made }
+    {
+        let _made = self.made;
     }
 
     /// Whether a client is up.
@@ -279,6 +305,7 @@ impl<L: Ledger, M: Machine> Core<L, M> {
         requires { all.old.parts ≡ L.parts }
         ensures made { result ≡ self.old.made }
         ensures sum { result ≡ all.old.amount }
+        ensures reached { IsReached L.setup self.new.hub self.new.past result }
     {
         self.book.audit(all);
         self.made
@@ -293,6 +320,7 @@ impl<L: Ledger, M: Machine> Core<L, M> {
             recorder,
             made: _,
             book: _,
+            head: _,
             dropped: _,
             awake: _,
             pace: _,

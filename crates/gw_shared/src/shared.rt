@@ -1,10 +1,12 @@
 //! The core behind its lock.
-ghost use Rattle.std.specs.Prelude.{◌≡◌, ◌<◌, IfOk, map};
+ghost use Rattle.std.specs.Prelude.{◌≡◌, ◌<◌, [], IfOk, map};
 ghost use Rattle.std.specs.List.{range_with_len};
+ghost use Rattle.gw_shared.specs.Reached.{CourseOf, IsFirst};
 ghost use Rattle.gw_shared.specs.Turn.{unused};
 
 use crate::bells::Bells;
 use crate::calls::Calls;
+use crate::course::{Course, Made};
 use crate::locked::Core;
 use crate::pass::Pass;
 use crate::pumped::Pumped;
@@ -12,15 +14,16 @@ use gw_bell::Bell;
 use gw_ends::Batch;
 use gw_model::Memory;
 use gw_record::{Figures, Load, Machine, Orders, Recorder, Reply, Roused, Step, StepFault};
+use one_log::{Head, Opened};
 use std::alloc::Global;
 use std::marker::Model;
 use std::sync::atomic::{AtomicBool, Ordering};
-use std::sync::ledger::{Blank, Ledger, Share};
+use std::sync::ledger::{Blank, Share};
 use std::sync::{Mutex, Wait};
 
 /// A core for many threads. Each makes its calls with a pass, of which there are as many as actors.
 #[derive(Drop)]
-pub struct Shared<L: Ledger, M: Machine> {
+pub struct Shared<L: Course, M: Machine> {
     actors: usize,
     core: Mutex<Core<L, M>>,
     bells: Bells,
@@ -28,7 +31,7 @@ pub struct Shared<L: Ledger, M: Machine> {
 }
 
 // A contract sees how many actors there are.
-impl<L: Ledger, M: Machine> Model for Shared<L, M> {
+impl<L: Course, M: Machine> Model for Shared<L, M> {
     ghost use Rattle.std.specs.Prelude.{◌≡◌, ◌<◌, ℕ};
 
     ghost Value = { ℕ };
@@ -39,12 +42,19 @@ impl<L: Ledger, M: Machine> Model for Shared<L, M> {
 }
 
 /// A pass for each actor, cut off a share of all parts.
-fn passes<L: Ledger>(alloc: Global, share: Share<L>, actors: usize) -> Result<Vec<Pass<L>>, Memory>
+fn passes<L: Course>(
+    alloc: Global,
+    share: Share<L>,
+    head: &mut Head<Made, L>,
+    actors: usize,
+) -> Result<Vec<Pass<L>>, Memory>
+    requires lanes { head.old ≡ record { lanes = 0; log = [] } }
     requires parts { (share.parts ≡ L.parts) × (share.parts ≡ actors) }
     requires amount { share.amount ≡ 0 }
     requires some { 0 < actors }
-    ensures { IfOk result (λ passes. passes.items
+    ensures passes { IfOk result (λ passes. passes.items
         ≡ map unused (range_with_len 0 actors)) }
+    ensures log { head.new.log ≡ [] }
 {
     let mut share = share;
     let mut passes = Vec::with_capacity(alloc, actors)?;
@@ -53,38 +63,44 @@ fn passes<L: Ledger>(alloc: Global, share: Share<L>, actors: usize) -> Result<Ve
             share: share.split_off(1, 0),
             actor,
             orders: Orders::untouched(alloc),
+            front: head.lane(),
         })?;
     }
     passes.push(Pass {
         share,
         actor: actors - 1,
         orders: Orders::untouched(alloc),
+        front: head.lane(),
     })?;
     Ok(passes)
 }
 
 /// A pass for each actor, and the bells of those who serve.
-fn passes_and_bells<L: Ledger>(
+fn passes_and_bells<L: Course>(
     alloc: Global,
     share: Share<L>,
+    head: &mut Head<Made, L>,
     actors: usize,
 ) -> Result<(Vec<Pass<L>>, Bells), Memory>
+    requires lanes { head.old ≡ record { lanes = 0; log = [] } }
     requires parts { (share.parts ≡ L.parts) × (share.parts ≡ actors) }
     requires amount { share.amount ≡ 0 }
     requires some { 0 < actors }
-    ensures { IfOk result (λ made. made.0.items ≡ map unused (range_with_len 0 actors)) }
+    ensures passes { IfOk result (λ made. made.0.items ≡ map unused (range_with_len 0 actors)) }
+    ensures log { head.new.log ≡ [] }
 {
-    let passes = passes(alloc, share, actors)?;
+    let passes = passes(alloc, share, head, actors)?;
     let bells = Bells::new(alloc)?;
     Ok((passes, bells))
 }
 
-impl<L: Ledger, M: Machine> Shared<L, M> {
+impl<L: Course, M: Machine> Shared<L, M> {
     /// A machine under its lock, for so many actors; the recorder keeps `capacity` calls at most. Gives a pass for each
     /// actor too, by their positions.
     pub fn new(
         alloc: Global,
         blank: Blank,
+        history: Opened<Made>,
         machine: M,
         actors: usize,
         capacity: usize,
@@ -93,12 +109,15 @@ impl<L: Ledger, M: Machine> Shared<L, M> {
         requires parts { (blank.parts ≡ L.parts) × (blank.parts ≡ actors) }
         requires actors { 0 < actors }
         requires capacity { 0 < capacity }
+        requires book { history.seen.book ≡ L.book }
+        requires first { IsFirst L.setup (M.seen machine) }
         ensures { IfOk result (λ made. made.1.items
             ≡ map unused (range_with_len 0 actors)) }
     {
         let (book, share) = blank.open::<L>();
-        let (passes, bells) = passes_and_bells(alloc, share, actors)?;
-        let core = Core::new(alloc, machine, book, actors, capacity)?;
+        let mut head = history.named::<L>();
+        let (passes, bells) = passes_and_bells(alloc, share, &mut head, actors)?;
+        let core = Core::new(alloc, machine, book, head, actors, capacity)?;
         let shared = Shared {
             actors,
             core: Mutex::new(core),
@@ -120,7 +139,8 @@ impl<L: Ledger, M: Machine> Shared<L, M> {
     /// How many calls were made, for whoever has all passes' shares.
     pub(crate) fn total<R: Wait>(&self, rt: &R, all: &mut Share<L>) -> u64
         requires { all.old.parts ≡ L.parts }
-        ensures { result ≡ all.old.amount }
+        ensures sum { result ≡ all.old.amount }
+        ensures course { CourseOf L.setup result }
     {
         self.core.lock(rt).total(all)
     }
@@ -137,7 +157,7 @@ impl<L: Ledger, M: Machine> Shared<L, M> {
     }
 }
 
-impl<L: Ledger, M: Machine> Calls<L> for Shared<L, M> {
+impl<L: Course, M: Machine> Calls<L> for Shared<L, M> {
     fn step<R: Wait>(
         &self,
         rt: &R,

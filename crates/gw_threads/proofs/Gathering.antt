@@ -1,17 +1,25 @@
 -- What a client's writer is given of the shared core.
-use Rattle.std.proofs.Common.{◌≡◌, inl, inr, ℕ, ◌+◌, List, [], ◌∷◌, ◌++◌, length, take, Option, Some, Ok, refl, sym, ap, subst, ◌∙◌}
+use Rattle.std.proofs.Common.{◌≡◌, inl, inr, false, ℕ, ◌+◌, List, [], ◌∷◌, ◌++◌, length, take, Option, Some, None, Result, Ok, Err, refl, sym, ap, subst, ◌∙◌}
 use Rattle.std.specs.List.{AllByRecursion}
 use Rattle.std.specs.Io.KnownBytes.{Appends}
 use Rattle.iec_apci.specs.declared.buffer.ApduBuf.{ApduBuf}
-use Rattle.gw_steps.specs.declared.step.Reply.TheVariants.{Apdu}
-use Rattle.gw_ends.specs.PutOut.{Gave, GivesAll, Handed, IsGathered, IsPut, MayHaveEnded, joined}
-use Rattle.gw_shared.specs.Pumping.{ArePumped, IsPumpedRun}
+use Rattle.gw_map.specs.Settings.{Setup}
+use Rattle.gw_steps.specs.declared.step.Step.TheVariants as steps
+use Rattle.gw_steps.specs.declared.step.Reply.{Reply}
+use Rattle.gw_steps.specs.declared.step.Reply.TheVariants.{Apdu, Closed, Done, Nothing, Request, Taken, Ticked, Verdict}
+use Rattle.gw_steps.specs.declared.step.StepFault.{StepFault}
+use Rattle.gw_ends.specs.PutOut.{Gave, Given, GivesAll, IsGathered, IsPut, MayHaveEnded, is_apdu, joined, writing_end}
+use Rattle.gw_shared.specs.Turn.{Pass}
+use Rattle.gw_shared.specs.Pumping.{ArePumped, IsGivenTo, IsPumpedRun, PumpsAll, PumpsOnce}
 use Rattle.gw_shared.specs.declared.pumped.Pumped.{Pumped}
 use Rattle.gw_shared.specs.declared.pumped.Pumped.TheVariants as pumps
+use Rattle.gw_shared.proofs.Pumping.{given_pumped, same_actor}
 use Rattle.gw_ends.proofs.Joined.{joined-append}
 use Rattle.gw_ends.specs.declared.putting.Gathered.{Gathered}
 use Rattle.std.proofs.Math.Seq.{take-append-add}
-use Rattle.gw_threads.specs.Written.{Asking, GivesTo, IsGivenTo, IsPumped, IsPutOut, Writes, WritesPut, Wrote, WroteFront, gathered_by}
+use Rattle.std.proofs.lemmas.List.{append-nil}
+use Rattle.std.proofs.Common.{append_assoc}
+use Rattle.gw_threads.specs.Written.{AreCalls, Asked, Asking, Call, GivesTo, IsFor, IsPutOut, Settles, TellsLoss, Writes, WritesIfEnded, WritesPut, Wrote, WroteFront, apdu_given, apdus_given, gathered_by}
 use Rattle.gw_ends.specs.declared.worker_end.WorkerEnd.{WorkerEnd}
 use Rattle.gw_ends.specs.declared.worker_end.WorkerEnd.TheVariants as ends
 use Rattle.gw_threads.proofs.Carried.{pumped_carries}
@@ -19,76 +27,181 @@ use Rattle.gw_ends.proofs.Runs.{appends-more}
 use Rattle.gw_ends.specs.declared.putting.Put.{Put}
 use Rattle.gw_ends.specs.declared.putting.Put.TheVariants.{Ended, Unwritten, More}
 
+-- ---- calls, one after another
+
+pub calls_then : (setup : Setup) (mine mid after : Pass) (a b : List Call) → AreCalls setup mine a mid
+    → AreCalls setup mid b after → AreCalls setup mine (a ++ b) after
+calls_then setup mine mid after [] b first more = subst (λ (p : Pass). AreCalls setup p b after) (sym first) more
+calls_then setup mine mid after (c ∷ a) b first more =
+    (first.0, (first.1.0, calls_then setup first.0 mid after a b first.1.1 more))
+
+-- whoever makes them stays the actor that it is
+pub calls_own : (setup : Setup) (mine after : Pass) (calls : List Call) → AreCalls setup mine calls after
+    → after.actor ≡ mine.actor
+calls_own setup mine after [] made = ap (λ (p : Pass). p.actor) (sym made)
+calls_own setup mine after (c ∷ calls) made =
+    calls_own setup made.0 after calls made.1.1 ∙ same_actor setup mine made.0 c.step (c.number, c.reply) made.1.0
+
+own_then : (client : ℕ) (a b : List Call) → AllByRecursion (λ (c : Call). IsFor client c.step) a
+    → AllByRecursion (λ (c : Call). IsFor client c.step) b → AllByRecursion (λ (c : Call). IsFor client c.step) (a ++ b)
+own_then client [] b first more = more
+own_then client (c ∷ a) b first more = (first.0, own_then client a b first.1 more)
+
+given_then : (a b : List Call) → apdus_given (a ++ b) ≡ apdus_given a ++ apdus_given b
+given_then [] b = refl
+given_then (c ∷ a) b =
+    ap (λ (rest : List ApduBuf). apdu_given c.step c.reply ++ rest) (given_then a b)
+    ∙ sym (append_assoc (apdu_given c.step c.reply) (apdus_given a) (apdus_given b))
+
+each_then : (client : ℕ) (a b : List ApduBuf) → AllByRecursion (IsPutOut client) a
+    → AllByRecursion (IsPutOut client) b → AllByRecursion (IsPutOut client) (a ++ b)
+each_then client [] b first more = more
+each_then client (x ∷ a) b first more = (first.0, each_then client a b first.1 more)
+
+pub asked_then : (setup : Setup) (client : ℕ) (mine mid after : Pass) (a b : List ApduBuf)
+    → Asked setup client mine mid a → Asked setup client mid after b → Asked setup client mine after (a ++ b)
+asked_then setup client mine mid after a b first more = record {
+  calls = first.calls ++ more.calls;
+  made = calls_then setup mine mid after first.calls more.calls first.made more.made;
+  own = own_then client first.calls more.calls first.own more.own;
+  given =
+      given_then first.calls more.calls
+      ∙ (ap (λ (l : List ApduBuf). l ++ apdus_given more.calls) first.given
+      ∙ ap (λ (l : List ApduBuf). a ++ l) more.given);
+  each = each_then client a b first.each more.each;
+}
+
+asked_none : (setup : Setup) (client : ℕ) (mine after : Pass) → mine ≡ after → Asked setup client mine after []
+asked_none setup client mine after same =
+    record { calls = []; made = same; own = tt; given = refl; each = tt }
+
 -- an APDU is the answer to a pump
-is_put_out : (client : ℕ) (apdu : ApduBuf) → IsGivenTo client (Some (Ok (Apdu apdu))) → IsPutOut client apdu
+is_put_out : (client : ℕ) (apdu : ApduBuf) → IsGivenTo client (Ok (Apdu apdu)) → IsPutOut client apdu
 is_put_out client apdu given = elim given as (λ _. IsPutOut client apdu) [
   | inl pumped ↦ record { pumped = pumped; fit = pumped_carries client apdu pumped }
   | inr spent ↦ absurd cc
 ]
 
--- what a worker is given for its client leaves it what it is, and is answers to pumps
-pub all_pumped : (old new : Asking) (apdus : List ApduBuf) → GivesAll GivesTo old apdus new
-    → (new ≡ old) × AllByRecursion (IsPutOut old.client) apdus
-all_pumped old new [] given = (sym given, tt)
-all_pumped old new (a ∷ apdus) given =
+asked_apdu : (setup : Setup) (client : ℕ) (mine after : Pass) (apdu : ApduBuf)
+    → PumpsOnce setup client mine after (Ok (Apdu apdu)) → Asked setup client mine after (apdu ∷ [])
+asked_apdu setup client mine after apdu pumped = record {
+  calls = record { step = steps.Pump client pumped.0; number = pumped.1.0; reply = Ok (Apdu apdu) } ∷ [];
+  made = (after, (pumped.1.1, refl));
+  own = (refl, tt);
+  given = refl;
+  each = (is_put_out client apdu (given_pumped setup mine after client (Ok (Apdu apdu)) pumped), tt);
+}
+
+no_apdu : (client moment : ℕ) (reply : Result Reply StepFault) → is_apdu (Some reply) ≡ false
+    → apdu_given (steps.Pump client moment) reply ≡ []
+no_apdu client moment (Ok (Apdu apdu)) none = absurd (cc none)
+no_apdu client moment (Ok Done) none = refl
+no_apdu client moment (Ok (Verdict verdict)) none = refl
+no_apdu client moment (Ok (Request request)) none = refl
+no_apdu client moment (Ok Taken) none = refl
+no_apdu client moment (Ok (Closed why)) none = refl
+no_apdu client moment (Ok Nothing) none = refl
+no_apdu client moment (Ok (Ticked closed)) none = refl
+no_apdu client moment (Err fault) none = refl
+
+asked_other : (setup : Setup) (client : ℕ) (mine after : Pass) (reply : Result Reply StepFault)
+    → PumpsOnce setup client mine after reply → is_apdu (Some reply) ≡ false → Asked setup client mine after []
+asked_other setup client mine after reply pumped none = record {
+  calls = record { step = steps.Pump client pumped.0; number = pumped.1.0; reply = reply } ∷ [];
+  made = (after, (pumped.1.1, refl));
+  own = (refl, tt);
+  given = ap (λ (l : List ApduBuf). l ++ []) (no_apdu client pumped.0 reply none);
+  each = tt;
+}
+
+-- ---- what a source gives
+
+-- what ends a run, which is no APDU
+asked_last : (setup : Setup) (old new : Asking) (last : Given) → GivesTo setup old last new → is_apdu last ≡ false
+    → (new.client ≡ old.client) × Asked setup old.client old.pass new.pass []
+asked_last setup old new None given none =
+    (ap (λ (a : Asking). a.client) given, asked_none setup old.client old.pass new.pass (ap (λ (a : Asking). a.pass) (sym given)))
+asked_last setup old new (Some reply) given none =
+    (given.0, asked_other setup old.client old.pass new.pass reply given.1 none)
+
+-- a worker is given APDUs for its client, which stays the same
+pub asked_all : (setup : Setup) (old new : Asking) (apdus : List ApduBuf) → GivesAll (GivesTo setup) old apdus new
+    → (new.client ≡ old.client) × Asked setup old.client old.pass new.pass apdus
+asked_all setup old new [] given =
+    (ap (λ (a : Asking). a.client) (sym given), asked_none setup old.client old.pass new.pass (ap (λ (a : Asking). a.pass) given))
+asked_all setup old new (a ∷ apdus) given =
     let mid = given.0 in
     let here = given.1.0 in
-    let rest = all_pumped mid new apdus given.1.1 in (
+    let rest = asked_all setup mid new apdus given.1.1 in (
       rest.0 ∙ here.0,
-      (
-        is_put_out old.client a here.1,
-        subst (λ (w : Asking). AllByRecursion (IsPutOut w.client) apdus) here.0 rest.1,
-      ),
+      asked_then setup old.client old.pass mid.pass new.pass (a ∷ []) apdus
+          (asked_apdu setup old.client old.pass mid.pass a here.1)
+          (subst (λ (k : ℕ). Asked setup k mid.pass new.pass apdus) here.0 rest.1),
     )
 
-wrote-handed : (old new : Asking) (x y : Option (List ℕ)) → Handed GivesTo old new x y → Wrote old.client x y
-wrote-handed old new x y handed =
-    record { apdus = handed.apdus; each = (all_pumped old new handed.apdus handed.given).1; taken = handed.taken }
+-- some, and then what ended the run
+asked_on : (setup : Setup) (old mid new : Asking) (apdus : List ApduBuf) (last : Given)
+    → GivesAll (GivesTo setup) old apdus mid → GivesTo setup mid last new → is_apdu last ≡ false
+    → (new.client ≡ old.client) × Asked setup old.client old.pass new.pass apdus
+asked_on setup old mid new apdus last given then none =
+    let first = asked_all setup old mid apdus given in
+    let more = asked_last setup mid new last then none in (
+      more.0 ∙ first.0,
+      subst (Asked setup old.client old.pass new.pass) (append-nil apdus)
+          (asked_then setup old.client old.pass mid.pass new.pass apdus [] first.1
+          (subst (λ (k : ℕ). Asked setup k mid.pass new.pass []) first.0 more.1)),
+    )
 
--- nor does what ends a run
-same-ended : (mid new : Asking) → MayHaveEnded GivesTo mid new → new ≡ mid
-same-ended mid new ended = elim ended as (λ _. new ≡ mid) [
-  | inl same ↦ sym same
-  | inr last ↦ last.1.0.0
-]
+asked_if_ended : (setup : Setup) (old mid new : Asking) (apdus : List ApduBuf) → GivesAll (GivesTo setup) old apdus mid
+    → MayHaveEnded (GivesTo setup) mid new → (new.client ≡ old.client) × Asked setup old.client old.pass new.pass apdus
+asked_if_ended setup old mid new apdus given ended =
+    elim ended as (λ _. (new.client ≡ old.client) × Asked setup old.client old.pass new.pass apdus) [
+      | inl same ↦ asked_all setup old new apdus (subst (GivesAll (GivesTo setup) old apdus) same given)
+      | inr last ↦ asked_on setup old mid new apdus last.0 given last.1.0 last.1.1
+    ]
 
 -- one run
-pub same-put : (old new : Asking) (x y : Option (List ℕ)) (put : Put) → IsPut GivesTo old new x y put → new ≡ old
-same-put old new x y (Ended last) put = put.1.1.0 ∙ (all_pumped old put.0 put.1.0.apdus put.1.0.given).0
-same-put old new x y Unwritten put = same-ended put.mid new put.ended ∙ (all_pumped old put.mid put.apdus put.given).0
-same-put old new x y More put = (all_pumped old new put.apdus put.given).0
+pub client_put : (setup : Setup) (old new : Asking) (x y : Option (List ℕ)) (put : Put)
+    → IsPut (GivesTo setup) old new x y put → new.client ≡ old.client
+client_put setup old new x y (Ended last) put =
+    (asked_on setup old put.0 new put.1.0.apdus last put.1.0.given put.1.1 put.1.2).0
+client_put setup old new x y Unwritten put = (asked_if_ended setup old put.mid new put.apdus put.given put.ended).0
+client_put setup old new x y More put = (asked_all setup old new put.apdus put.given).0
 
-pub wrote-put : (old new : Asking) (x y : Option (List ℕ)) (put : Put) → IsPut GivesTo old new x y put
-    → WritesPut old.client x y put
-wrote-put old new x y (Ended last) put = wrote-handed old put.0 x y put.1.0
-wrote-put old new x y Unwritten put = record {
+pub wrote-put : (setup : Setup) (old new : Asking) (x y : Option (List ℕ)) (put : Put)
+    → IsPut (GivesTo setup) old new x y put → WritesPut setup old.client old.pass new.pass x y put
+wrote-put setup old new x y (Ended last) put = record {
+  apdus = put.1.0.apdus;
+  asked = (asked_on setup old put.0 new put.1.0.apdus last put.1.0.given put.1.1 put.1.2).1;
+  taken = put.1.0.taken;
+}
+wrote-put setup old new x y Unwritten put = record {
   apdus = put.apdus;
-  each = (all_pumped old put.mid put.apdus put.given).1;
+  asked = (asked_if_ended setup old put.mid new put.apdus put.given put.ended).1;
   count = put.count;
   taken = put.taken;
 }
-wrote-put old new x y More put = wrote-handed old new x y put
+wrote-put setup old new x y More put =
+    record { apdus = put.apdus; asked = (asked_all setup old new put.apdus put.given).1; taken = put.taken }
 
 -- ---- what was handed over, one run after the other
 
-all-append : (client : ℕ) (a b : List ApduBuf) → AllByRecursion (IsPutOut client) a
-    → AllByRecursion (IsPutOut client) b → AllByRecursion (IsPutOut client) (a ++ b)
-all-append client [] b first more = more
-all-append client (x ∷ a) b first more = (first.0, all-append client a b first.1 more)
-
-pub wrote-then : (client : ℕ) (x y z : Option (List ℕ)) → Wrote client x y → Wrote client y z → Wrote client x z
-wrote-then client x y z first more = record {
+pub wrote-then : (setup : Setup) (client : ℕ) (mine mid after : Pass) (x y z : Option (List ℕ))
+    → Wrote setup client mine mid x y → Wrote setup client mid after y z → Wrote setup client mine after x z
+wrote-then setup client mine mid after x y z first more = record {
   apdus = first.apdus ++ more.apdus;
-  each = all-append client first.apdus more.apdus first.each more.each;
+  asked = asked_then setup client mine mid after first.apdus more.apdus first.asked more.asked;
   taken =
       subst (Appends x z) (sym (joined-append first.apdus more.apdus))
       (appends-more x y z (joined first.apdus) (joined more.apdus) first.taken more.taken);
 }
 
-front-then : (client : ℕ) (x y z : Option (List ℕ)) → Wrote client x y → WroteFront client y z → WroteFront client x z
-front-then client x y z first more = record {
+front-then : (setup : Setup) (client : ℕ) (mine mid after : Pass) (x y z : Option (List ℕ))
+    → Wrote setup client mine mid x y → WroteFront setup client mid after y z
+    → WroteFront setup client mine after x z
+front-then setup client mine mid after x y z first more = record {
   apdus = first.apdus ++ more.apdus;
-  each = all-append client first.apdus more.apdus first.each more.each;
+  asked = asked_then setup client mine mid after first.apdus more.apdus first.asked more.asked;
   count = length (joined first.apdus) + more.count;
   taken =
       subst (Appends x z)
@@ -98,36 +211,127 @@ front-then client x y z first more = record {
 }
 
 -- and how it ended
-pub writes-then : (client : ℕ) (x y z : Option (List ℕ)) (end : WorkerEnd) → Wrote client x y → Writes client y z end
-    → Writes client x z end
-writes-then client x y z (ends.Closed why) first more = wrote-then client x y z first more
-writes-then client x y z ends.EndOfInput first more = wrote-then client x y z first more
-writes-then client x y z ends.ReadFault first more = wrote-then client x y z first more
-writes-then client x y z ends.Unanswered first more = wrote-then client x y z first more
-writes-then client x y z ends.WriteFault first more = front-then client x y z first more
-writes-then client x y z (ends.Malformed fault) first more = wrote-then client x y z first more
-writes-then client x y z ends.Memory first more = wrote-then client x y z first more
-writes-then client x y z ends.Stopping first more = wrote-then client x y z first more
+pub writes-then : (setup : Setup) (client : ℕ) (mine mid after : Pass) (x y z : Option (List ℕ)) (end : WorkerEnd)
+    → Wrote setup client mine mid x y → Writes setup client mid after y z end → Writes setup client mine after x z end
+writes-then setup client mine mid after x y z (ends.Closed why) first more =
+    wrote-then setup client mine mid after x y z first more
+writes-then setup client mine mid after x y z ends.EndOfInput first more =
+    wrote-then setup client mine mid after x y z first more
+writes-then setup client mine mid after x y z ends.ReadFault first more =
+    wrote-then setup client mine mid after x y z first more
+writes-then setup client mine mid after x y z ends.Unanswered first more =
+    wrote-then setup client mine mid after x y z first more
+writes-then setup client mine mid after x y z ends.WriteFault first more =
+    front-then setup client mine mid after x y z first more
+writes-then setup client mine mid after x y z (ends.Malformed fault) first more =
+    wrote-then setup client mine mid after x y z first more
+writes-then setup client mine mid after x y z ends.Memory first more =
+    wrote-then setup client mine mid after x y z first more
+writes-then setup client mine mid after x y z ends.Stopping first more =
+    wrote-then setup client mine mid after x y z first more
+
+-- nothing yet
+pub wrote_none : (setup : Setup) (client : ℕ) (mine : Pass) (x : Option (List ℕ)) → Wrote setup client mine mine x x
+wrote_none setup client mine x =
+    record { apdus = []; asked = asked_none setup client mine mine refl; taken = nothing x }
+  where
+    nothing : (x : Option (List ℕ)) → Appends x x []
+    nothing None = tt
+    nothing (Some xs) = sym (append-nil xs)
+
+-- ---- behind a run
+
+asked_loss : (setup : Setup) (client : ℕ) (mine mid after : Pass) (apdus : List ApduBuf)
+    → Asked setup client mine mid apdus → TellsLoss setup client mid after → Asked setup client mine after apdus
+asked_loss setup client mine mid after apdus first loss =
+    subst (Asked setup client mine after) (append-nil apdus)
+    (asked_then setup client mine mid after apdus [] first (record {
+      calls = record { step = steps.ClientDown client loss.0; number = loss.1.0; reply = loss.1.1.0 } ∷ [];
+      made = (after, (loss.1.1.1, refl));
+      own = (refl, tt);
+      given = refl;
+      each = tt;
+    }))
+
+wrote_loss : (setup : Setup) (client : ℕ) (mine mid after : Pass) (x y : Option (List ℕ))
+    → Wrote setup client mine mid x y → TellsLoss setup client mid after → Wrote setup client mine after x y
+wrote_loss setup client mine mid after x y wrote loss = record {
+  apdus = wrote.apdus;
+  asked = asked_loss setup client mine mid after wrote.apdus wrote.asked loss;
+  taken = wrote.taken;
+}
+
+wrote_same : (setup : Setup) (client : ℕ) (mine mid after : Pass) (x y : Option (List ℕ))
+    → Wrote setup client mine mid x y → after ≡ mid → Wrote setup client mine after x y
+wrote_same setup client mine mid after x y wrote same =
+    subst (λ (p : Pass). Wrote setup client mine p x y) (sym same) wrote
+
+pub settled : (setup : Setup) (client : ℕ) (mine mid after : Pass) (x y : Option (List ℕ)) (put : Put)
+    → WritesPut setup client mine mid x y put → Settles setup client mid after put
+    → WritesIfEnded setup client mine after x y (writing_end put)
+settled setup client mine mid after x y (Ended None) wrote settles =
+    wrote_same setup client mine mid after x y wrote settles
+settled setup client mine mid after x y (Ended (Some (Ok reply))) wrote settles =
+    wrote_same setup client mine mid after x y wrote settles
+settled setup client mine mid after x y (Ended (Some (Err fault))) wrote settles =
+    wrote_loss setup client mine mid after x y wrote settles
+settled setup client mine mid after x y Unwritten wrote settles = record {
+  apdus = wrote.apdus;
+  asked = asked_loss setup client mine mid after wrote.apdus wrote.asked settles;
+  count = wrote.count;
+  taken = wrote.taken;
+}
+settled setup client mine mid after x y More wrote settles =
+    wrote_same setup client mine mid after x y wrote settles
+
+-- the actor that the worker is
+pub writes_own : (setup : Setup) (client : ℕ) (mine after : Pass) (x y : Option (List ℕ)) (end : WorkerEnd)
+    → Writes setup client mine after x y end → after.actor ≡ mine.actor
+writes_own setup client mine after x y (ends.Closed why) w = calls_own setup mine after w.asked.calls w.asked.made
+writes_own setup client mine after x y ends.EndOfInput w = calls_own setup mine after w.asked.calls w.asked.made
+writes_own setup client mine after x y ends.ReadFault w = calls_own setup mine after w.asked.calls w.asked.made
+writes_own setup client mine after x y ends.Unanswered w = calls_own setup mine after w.asked.calls w.asked.made
+writes_own setup client mine after x y ends.WriteFault w = calls_own setup mine after w.asked.calls w.asked.made
+writes_own setup client mine after x y (ends.Malformed fault) w = calls_own setup mine after w.asked.calls w.asked.made
+writes_own setup client mine after x y ends.Memory w = calls_own setup mine after w.asked.calls w.asked.made
+writes_own setup client mine after x y ends.Stopping w = calls_own setup mine after w.asked.calls w.asked.made
 
 -- ---- what was pumped under one hold of the lock
 
-given-all : (a : Asking) (apdus : List ApduBuf)
-    → AllByRecursion (λ (x : ApduBuf). IsPumped a.client (Ok (Apdu x))) apdus → GivesAll GivesTo a apdus a
-given-all a [] pumped = refl
-given-all a (x ∷ apdus) pumped = (a, ((refl, inl pumped.0), given-all a apdus pumped.1))
+abbrev pub asking : ℕ → Pass → Asking
+asking client pass = record { client = client; pass = pass }
 
-gave-pumped : (a : Asking) (before after : List ℕ) → ArePumped a.client before after → Gave GivesTo a a before after
-gave-pumped a before after are =
-    record { apdus = are.apdus; given = given-all a are.apdus are.pumped; octets = are.octets }
+given-all : (setup : Setup) (client : ℕ) (mine after : Pass) (apdus : List ApduBuf)
+    → PumpsAll setup client mine apdus after
+    → GivesAll (GivesTo setup) (asking client mine) apdus (asking client after)
+given-all setup client mine after [] pumped = ap (asking client) pumped
+given-all setup client mine after (x ∷ apdus) pumped = (
+  asking client pumped.0,
+  ((refl, pumped.1.0), given-all setup client pumped.0 after apdus pumped.1.1),
+)
 
-gathered-run : (a : Asking) (before after : List ℕ) (pumped : Pumped) → IsPumpedRun a.client before after pumped
-    → IsGathered GivesTo a a before after (gathered_by pumped)
-gathered-run a before after (pumps.Ended reply) run = (a, (gave-pumped a before after run.0, (refl, run.1), run.2))
-gathered-run a before after pumps.More run = gave-pumped a before after run
+gave-pumped : (setup : Setup) (client : ℕ) (mine after : Pass) (before octets : List ℕ)
+    → ArePumped setup client mine after before octets
+    → Gave (GivesTo setup) (asking client mine) (asking client after) before octets
+gave-pumped setup client mine after before octets are = record {
+  apdus = are.apdus;
+  given = given-all setup client mine after are.apdus are.pumped;
+  octets = are.octets_are;
+}
 
-pub gathered-by : (old new : Asking) (before after : List ℕ) (pumped : Pumped) (how : Gathered) → new ≡ old
-    → how ≡ gathered_by pumped
-    → IsPumpedRun old.client before after pumped → IsGathered GivesTo old new before after how
-gathered-by old new before after pumped how same is run =
-    subst (λ (w : Asking). IsGathered GivesTo old w before after how) (sym same)
-    (subst (IsGathered GivesTo old old before after) (sym is) (gathered-run old before after pumped run))
+gathered-run : (setup : Setup) (client : ℕ) (mine after : Pass) (before octets : List ℕ) (pumped : Pumped)
+    → IsPumpedRun setup client mine after before octets pumped
+    → IsGathered (GivesTo setup) (asking client mine) (asking client after) before octets (gathered_by pumped)
+gathered-run setup client mine after before octets (pumps.Ended reply) run = (
+  asking client run.0,
+  (gave-pumped setup client mine run.0 before octets run.1.0, (refl, run.1.1.0), run.1.1.1),
+)
+gathered-run setup client mine after before octets pumps.More run =
+    gave-pumped setup client mine after before octets run
+
+pub gathered-by : (setup : Setup) (client : ℕ) (mine after : Pass) (before octets : List ℕ) (pumped : Pumped)
+    (how : Gathered) → how ≡ gathered_by pumped → IsPumpedRun setup client mine after before octets pumped
+    → IsGathered (GivesTo setup) (asking client mine) (asking client after) before octets how
+gathered-by setup client mine after before octets pumped how is run =
+    subst (IsGathered (GivesTo setup) (asking client mine) (asking client after) before octets) (sym is)
+    (gathered-run setup client mine after before octets pumped run)

@@ -1,2 +1,4 @@
 pub mod Gathering
 pub mod Carried
+pub mod Requesting
+pub mod Standing

@@ -1,3 +1,4 @@
 pub mod Carries
-pub mod Sending
 pub mod Written
+pub mod Sends
+pub mod Standing

@@ -1,12 +1,17 @@
 -- What a client's writer hands over.
-use Rattle.std.specs.Prelude.{◌≡◌, ℕ, List, take, Option, Some, None, Ok}
+use Rattle.std.specs.Prelude.{◌≡◌, ℕ, List, [], ◌∷◌, ◌++◌, take, Option, Some, None, Result, Ok, Err}
 use Rattle.std.specs.List.{AllByRecursion}
 use Rattle.std.specs.Io.KnownBytes.{Appends}
-use Rattle.gw_map.specs.Settings.{station_clocks}
+use Rattle.gw_map.specs.Settings.{Setup, station_clocks}
 use Rattle.iec_apci.specs.declared.buffer.ApduBuf.{ApduBuf}
+use Rattle.gw_steps.specs.declared.step.Step.{Step}
+use Rattle.gw_steps.specs.declared.step.Step.TheVariants as steps
+use Rattle.gw_steps.specs.declared.step.Reply.{Reply}
 use Rattle.gw_steps.specs.declared.step.Reply.TheVariants.{Apdu}
+use Rattle.gw_steps.specs.declared.step.StepFault.{StepFault}
 pub use Rattle.gw_shared.specs.Pumping.{IsPumped}
-use Rattle.gw_shared.specs.Pumping.{IsGivenTo as IsAnswerTo}
+use Rattle.gw_shared.specs.Pumping.{PumpsOnce}
+use Rattle.gw_shared.specs.Turn.{Answers, Pass}
 use Rattle.gw_shared.specs.declared.pumped.Pumped.{Pumped}
 use Rattle.gw_shared.specs.declared.pumped.Pumped.TheVariants as pumps
 use Rattle.gw_threads.specs.Carries.{CarriesFit}
@@ -18,20 +23,16 @@ use Rattle.gw_ends.specs.declared.putting.Put.TheVariants as puts
 use Rattle.gw_ends.specs.declared.worker_end.WorkerEnd.{WorkerEnd}
 use Rattle.gw_ends.specs.declared.worker_end.WorkerEnd.TheVariants as ends
 
--- what the writer of a client is given of the shared core: nothing where it is asked to end; an answer to a pump; or
--- that no further call can be counted
-abbrev pub IsGivenTo : ℕ → Given → Type 0
-IsGivenTo client None = Unit {0}
-IsGivenTo client (Some reply) = IsAnswerTo client reply
-
--- a worker that asks for one client, as one of the actors
+-- a worker that asks for one client, with its pass
 pub record Asking : Type 0 where
   pub client : ℕ
-  pub actor : ℕ
+  pub pass : Pass
 
--- which it stays, whatever it is given
-abbrev pub GivesTo : Asking → Given → Asking → Type 0
-GivesTo old given new = (new ≡ old) × IsGivenTo old.client given
+-- what the writer of a client is given of the shared core: nothing where it is asked to end; the answer to a call that pumps
+abbrev pub GivesTo : Setup → Asking → Given → Asking → Type 0
+GivesTo setup old None new = new ≡ old
+GivesTo setup old (Some reply) new =
+    (new.client ≡ old.client) × PumpsOnce setup old.client old.pass new.pass reply
 
 -- how gathering ended, by how a run of pumps did
 abbrev pub gathered_by : Pumped → Gathered
@@ -44,30 +45,79 @@ pub record IsPutOut (client : ℕ) (apdu : ApduBuf) : Type 0 where
   pub pumped : IsPumped client (Ok (Apdu apdu))
   pub fit : CarriesFit (station_clocks pumped.setup.station) apdu
 
--- the writer took the octets of APDUs, each one that is put out so
-pub record Wrote (client : ℕ) (before after : Option (List ℕ)) : Type 0 where
-  pub apdus : List ApduBuf
-  pub each : AllByRecursion (IsPutOut client) apdus
-  pub taken : Appends before after (joined apdus)
+-- a call that was made with a pass: its step, its number, and what it was answered
+pub record Call : Type 0 where
+  pub step : Step
+  pub number : ℕ
+  pub reply : Result Reply StepFault
 
--- it took the front of such octets
-pub record WroteFront (client : ℕ) (before after : Option (List ℕ)) : Type 0 where
-  pub apdus : List ApduBuf
+-- calls, one after another, led from a pass to another: each has its place in the one history, behind those before it
+abbrev pub AreCalls : Setup → Pass → List Call → Pass → Type 0
+AreCalls setup mine [] after = mine ≡ after
+AreCalls setup mine (c ∷ calls) after =
+    (mid : Pass) × (Answers setup mine mid c.step (c.number, c.reply) × AreCalls setup mid calls after)
+
+-- a step pumps for a client, or tells that it is lost
+abbrev pub IsFor : ℕ → Step → Type 0
+IsFor client (steps.Pump c moment) = c ≡ client
+IsFor client (steps.ClientDown c moment) = c ≡ client
+IsFor client _ = ⊥
+
+-- the APDU that a pump was answered with, if it was
+abbrev pub apdu_given : Step → Result Reply StepFault → List ApduBuf
+apdu_given (steps.Pump c moment) (Ok (Apdu apdu)) = apdu ∷ []
+apdu_given _ _ = []
+
+-- those of calls, in their order
+abbrev pub apdus_given : List Call → List ApduBuf
+apdus_given [] = []
+apdus_given (c ∷ calls) = apdu_given c.step c.reply ++ apdus_given calls
+
+-- all calls of the pass in that time were for the client, and their pumps were answered with just these APDUs, in this
+-- order
+pub record Asked (setup : Setup) (client : ℕ) (mine after : Pass) (apdus : List ApduBuf) : Type 0 where
+  pub calls : List Call
+  pub made : AreCalls setup mine calls after
+  pub own : AllByRecursion (λ (c : Call). IsFor client c.step) calls
+  pub given : apdus_given calls ≡ apdus
   pub each : AllByRecursion (IsPutOut client) apdus
+
+-- the writer took the octets of the APDUs that these calls were answered with
+pub record Wrote (setup : Setup) (client : ℕ) (mine after : Pass) (before octets : Option (List ℕ)) : Type 0 where
+  pub apdus : List ApduBuf
+  pub asked : Asked setup client mine after apdus
+  pub taken : Appends before octets (joined apdus)
+
+-- it took the front of them
+pub record WroteFront (setup : Setup) (client : ℕ) (mine after : Pass) (before octets : Option (List ℕ)) : Type 0 where
+  pub apdus : List ApduBuf
+  pub asked : Asked setup client mine after apdus
   pub count : ℕ
-  pub taken : Appends before after (take count (joined apdus))
+  pub taken : Appends before octets (take count (joined apdus))
 
 -- what it took until it ended so
-abbrev pub Writes : ℕ → Option (List ℕ) → Option (List ℕ) → WorkerEnd → Type 0
-Writes client before after ends.WriteFault = WroteFront client before after
-Writes client before after _ = Wrote client before after
+abbrev pub Writes : Setup → ℕ → Pass → Pass → Option (List ℕ) → Option (List ℕ) → WorkerEnd → Type 0
+Writes setup client mine after before octets ends.WriteFault = WroteFront setup client mine after before octets
+Writes setup client mine after before octets _ = Wrote setup client mine after before octets
 
 -- what it took in one run
-abbrev pub WritesPut : ℕ → Option (List ℕ) → Option (List ℕ) → Put → Type 0
-WritesPut client before after puts.Unwritten = WroteFront client before after
-WritesPut client before after (puts.Ended last) = Wrote client before after
-WritesPut client before after puts.More = Wrote client before after
+abbrev pub WritesPut : Setup → ℕ → Pass → Pass → Option (List ℕ) → Option (List ℕ) → Put → Type 0
+WritesPut setup client mine after before octets puts.Unwritten = WroteFront setup client mine after before octets
+WritesPut setup client mine after before octets (puts.Ended last) = Wrote setup client mine after before octets
+WritesPut setup client mine after before octets puts.More = Wrote setup client mine after before octets
 
-abbrev pub WritesIfEnded : ℕ → Option (List ℕ) → Option (List ℕ) → Option WorkerEnd → Type 0
-WritesIfEnded client before after None = Wrote client before after
-WritesIfEnded client before after (Some end) = Writes client before after end
+abbrev pub WritesIfEnded : Setup → ℕ → Pass → Pass → Option (List ℕ) → Option (List ℕ) → Option WorkerEnd → Type 0
+WritesIfEnded setup client mine after before octets None = Wrote setup client mine after before octets
+WritesIfEnded setup client mine after before octets (Some end) = Writes setup client mine after before octets end
+
+-- a call told that the client is lost
+abbrev pub TellsLoss : Setup → ℕ → Pass → Pass → Type 0
+TellsLoss setup client mine after =
+    (moment : ℕ) × ((number : ℕ) × ((reply : Result Reply StepFault)
+    × Answers setup mine after (steps.ClientDown client moment) (number, reply)))
+
+-- behind a run that ended by a fault, or wasn't taken, the client is lost; behind another one no call is made
+abbrev pub Settles : Setup → ℕ → Pass → Pass → Put → Type 0
+Settles setup client mine after (puts.Ended (Some (Err fault))) = TellsLoss setup client mine after
+Settles setup client mine after puts.Unwritten = TellsLoss setup client mine after
+Settles setup client mine after _ = after ≡ mine

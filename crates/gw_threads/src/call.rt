@@ -4,11 +4,10 @@ ghost use Rattle.gw_shared.specs.Turn.{Answers};
 
 use crate::gate::Gate;
 use dnp_app::Response;
-use gw_shared::{Calls, Orders, Pass, Pumped, Reply, Step, StepFault};
+use gw_shared::{Calls, Course, Orders, Pass, Pumped, Reply, Step, StepFault};
 use iec_apci::{Apdu, Signal};
 use iec_command::{Action, Command, read_command};
 use std::sync::Wait;
-use std::sync::ledger::Ledger;
 
 /// What a step is about.
 #[derive(Clone, Copy)]
@@ -149,14 +148,14 @@ pub struct Run<'a> {
 }
 
 /// Makes a step on the shared core, and tells the gate of it. Gives the reply.
-pub fn make_call<L: Ledger, S: Calls<L>, R: Wait, G: Gate>(
+pub fn make_call<L: Course, S: Calls<L>, R: Wait, G: Gate>(
     rt: &R,
     shared: &S,
     pass: &mut Pass<L>,
     step: Step,
     gate: &G,
 ) -> Result<Reply, StepFault>
-    ensures answered { (number : ℕ) × Answers pass.old pass.new step (number, result) }
+    ensures answered { (number : ℕ) × Answers L.setup pass.old pass.new step (number, result) }
     ensures own { pass.new.actor ≡ pass.old.actor }
 {
     let about = About::of(&step);

@@ -2,19 +2,18 @@
 ghost use Rattle.std.specs.Prelude.{◌≡◌, ◌||◌, IfSome, Some};
 ghost use Rattle.gw_ends.specs.Ends.{is_write_fault, MayEndWriting};
 ghost use Rattle.gw_ends.specs.PutOut.{is_unwritten};
-ghost use Rattle.gw_threads.specs.Written.{Writes, WritesIfEnded, WritesPut};
+ghost use Rattle.gw_threads.specs.Written.{Settles, Writes, WritesIfEnded, WritesPut};
 
 use crate::gate::Gate;
 use crate::source::SharedSource;
 use gw_clock::Clock;
 use gw_ends::{Batch, Outgoing, Put, WorkerEnd, put_out};
-use gw_shared::{Calls, Pass};
+use gw_shared::{Calls, Course, Pass};
 use std::sync::Wait;
-use std::sync::ledger::Ledger;
 
 /// Hands over what the core puts out to a client, until the client isn't up any more, writing fails, or it is asked
 /// to end. Where nothing waits it sleeps until a step may bring something.
-pub fn client_writer<'a, L: Ledger, S: Calls<L>, R: Wait, W: Outgoing, C: Clock, G: Gate>(
+pub fn client_writer<'a, L: Course, S: Calls<L>, R: Wait, W: Outgoing, C: Clock, G: Gate>(
     rt: &'a R,
     shared: &'a S,
     pass: Pass<L>,
@@ -24,7 +23,7 @@ pub fn client_writer<'a, L: Ledger, S: Calls<L>, R: Wait, W: Outgoing, C: Clock,
     gate: &'a G,
 ) -> (Pass<L>, WorkerEnd)
     ensures own { result.0.actor ≡ pass.actor }
-    ensures written { Writes client (W.contents writer.old) (W.contents writer.new) result.1 }
+    ensures written { Writes L.setup client pass result.0 (W.contents writer.old) (W.contents writer.new) result.1 }
     ensures end { MayEndWriting result.1 }
     // It ended by a failed write exactly where one failed, unless one had before.
     ensures failed { W.has_failed writer.new ≡ (is_write_fault (Some result.1) || W.has_failed writer.old) }
@@ -36,13 +35,13 @@ pub fn client_writer<'a, L: Ledger, S: Calls<L>, R: Wait, W: Outgoing, C: Clock,
 }
 
 /// Run after run, until the worker is to end.
-fn write_on<L: Ledger, S: Calls<L>, R: Wait, W: Outgoing, C: Clock, G: Gate>(
+fn write_on<L: Course, S: Calls<L>, R: Wait, W: Outgoing, C: Clock, G: Gate>(
     source: &mut SharedSource<'_, L, S, R, C, G>,
     writer: &mut W,
     batch: &mut Batch,
 ) -> WorkerEnd
-    ensures same { source.new ≡ source.old }
-    ensures written { Writes source.old.client (W.contents writer.old) (W.contents writer.new) result }
+    ensures client { source.new.client ≡ source.old.client }
+    ensures written { Writes L.setup source.old.client source.old.pass source.new.pass (W.contents writer.old) (W.contents writer.new) result }
     ensures end { MayEndWriting result }
     ensures failed { W.has_failed writer.new ≡ (is_write_fault (Some result) || W.has_failed writer.old) }
 {
@@ -55,34 +54,46 @@ fn write_on<L: Ledger, S: Calls<L>, R: Wait, W: Outgoing, C: Clock, G: Gate>(
 }
 
 /// One run, and the sleep behind it; how the worker ends, if it does.
-fn write_run<L: Ledger, S: Calls<L>, R: Wait, W: Outgoing, C: Clock, G: Gate>(
+fn write_run<L: Course, S: Calls<L>, R: Wait, W: Outgoing, C: Clock, G: Gate>(
     source: &mut SharedSource<'_, L, S, R, C, G>,
     writer: &mut W,
     batch: &mut Batch,
 ) -> Option<WorkerEnd>
-    ensures same { source.new ≡ source.old }
-    ensures written { WritesIfEnded source.old.client (W.contents writer.old) (W.contents writer.new) result }
+    ensures client { source.new.client ≡ source.old.client }
+    ensures written { WritesIfEnded L.setup source.old.client source.old.pass source.new.pass (W.contents writer.old) (W.contents writer.new) result }
     ensures end { IfSome result MayEndWriting }
     ensures failed { W.has_failed writer.new ≡ (is_write_fault result || W.has_failed writer.old) }
 {
     let rung = source.rung();
     let put = put_run(source, writer, batch);
+    settle(source, &put, rung);
+    put.end()
+}
+
+/// What comes behind a run: a sleep where nothing waits, or the loss of the client.
+fn settle<L: Course, S: Calls<L>, R: Wait, C: Clock, G: Gate>(
+    source: &mut SharedSource<'_, L, S, R, C, G>,
+    put: &Put,
+    rung: u64,
+)
+    ensures client { source.new.client ≡ source.old.client }
+    ensures settles { Settles L.setup source.old.client source.old.pass source.new.pass put.now }
+{
     match put {
         Put::Ended(Some(Ok(_))) => source.wait(rung),
         Put::Ended(Some(Err(_))) | Put::Unwritten => source.lose(),
         Put::Ended(None) | Put::More => {}
     }
-    put.end()
 }
 
 /// Hands over one run of what the core puts out to the client.
-fn put_run<L: Ledger, S: Calls<L>, R: Wait, W: Outgoing, C: Clock, G: Gate>(
+fn put_run<L: Course, S: Calls<L>, R: Wait, W: Outgoing, C: Clock, G: Gate>(
     source: &mut SharedSource<'_, L, S, R, C, G>,
     writer: &mut W,
     batch: &mut Batch,
 ) -> Put
-    ensures same { source.new ≡ source.old }
-    ensures written { WritesPut source.old.client (W.contents writer.old) (W.contents writer.new) result }
+    ensures client { source.new.client ≡ source.old.client }
+    ensures written { WritesPut L.setup source.old.client source.old.pass source.new.pass (W.contents writer.old) (W.contents writer.new) result }
     ensures failed { W.has_failed writer.new ≡ (is_unwritten (Some result) || W.has_failed writer.old) }
 {
     put_out(source, writer, batch)

@@ -6,6 +6,7 @@
 mod call;
 mod client_writing;
 mod gate;
+pub mod laws;
 mod lost;
 mod outstation_writing;
 mod source;
@@ -17,12 +18,13 @@ pub use client_writing::client_writer;
 pub use gate::{Gate, OpenGate, Place};
 pub use gw_clock::Clock;
 pub use gw_ends::{
-    Arrival, Batch, Gathered, Incoming, Line, Outgoing, Put, Source, Unwritten, WorkerEnd, apdu_in,
-    put_out,
+    Arrival, Batch, Front, Gathered, Head, Incoming, Line, LineCourse, Outgoing, Put, Sending,
+    Source, Unwritten, WorkerEnd, apdu_in, put_out,
 };
 pub use gw_shared::{
-    Bell, Calls, CloseFault, Closed, Core, Entry, Fate, Figures, Kept, KeptStep, Machine,
-    OrderCounts, Orders, Pass, Pumped, Recorder, Reply, Shared, Step, StepFault, Verdict, Why,
+    Bell, Calls, CloseFault, Closed, Core, Course, Entry, Fate, Figures, Kept, KeptStep, Load,
+    Machine, Made, Opened, OrderCounts, Orders, Pass, Pumped, Recorder, Reply, Shared, Step,
+    StepFault, Verdict, Why, open_course,
 };
 pub use lost::{lose_client, lose_outstation};
 pub use outstation_writing::outstation_writer;

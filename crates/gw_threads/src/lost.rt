@@ -1,15 +1,16 @@
 //! The steps of a loss.
 ghost use Rattle.std.specs.Prelude.{◌≡◌};
+ghost use Rattle.gw_threads.specs.Sends.{TellsOutstationLoss};
+ghost use Rattle.gw_threads.specs.Written.{TellsLoss};
 
 use crate::call::make_call;
 use crate::gate::Gate;
 use gw_clock::Clock;
-use gw_shared::{Calls, Pass, Step};
+use gw_shared::{Calls, Course, Pass, Step};
 use std::sync::Wait;
-use std::sync::ledger::Ledger;
 
 /// The connection to a client is lost. Where it was lost before, nothing changes.
-pub fn lose_client<L: Ledger, S: Calls<L>, R: Wait, C: Clock, G: Gate>(
+pub fn lose_client<L: Course, S: Calls<L>, R: Wait, C: Clock, G: Gate>(
     rt: &R,
     shared: &S,
     pass: &mut Pass<L>,
@@ -17,14 +18,15 @@ pub fn lose_client<L: Ledger, S: Calls<L>, R: Wait, C: Clock, G: Gate>(
     clock: &C,
     gate: &G,
 )
-    ensures { pass.new.actor ≡ pass.old.actor }
+    ensures own { pass.new.actor ≡ pass.old.actor }
+    ensures told { TellsLoss L.setup client pass.old pass.new }
 {
     let moment = clock.moment();
     let _ = make_call(rt, shared, pass, Step::ClientDown { client, moment }, gate);
 }
 
 /// The connection to an outstation is lost. Where it was lost before, nothing changes.
-pub fn lose_outstation<L: Ledger, S: Calls<L>, R: Wait, C: Clock, G: Gate>(
+pub fn lose_outstation<L: Course, S: Calls<L>, R: Wait, C: Clock, G: Gate>(
     rt: &R,
     shared: &S,
     pass: &mut Pass<L>,
@@ -32,7 +34,8 @@ pub fn lose_outstation<L: Ledger, S: Calls<L>, R: Wait, C: Clock, G: Gate>(
     clock: &C,
     gate: &G,
 )
-    ensures { pass.new.actor ≡ pass.old.actor }
+    ensures own { pass.new.actor ≡ pass.old.actor }
+    ensures told { TellsOutstationLoss L.setup outstation pass.old pass.new }
 {
     let moment = clock.moment();
     let _ = make_call(

@@ -1,36 +1,48 @@
 //! The writer towards an outstation.
-ghost use Rattle.std.specs.Prelude.{◌≡◌, IfSome};
-ghost use Rattle.gw_threads.specs.Sending.{MayEndSending};
+ghost use Rattle.std.specs.Prelude.{◌≡◌, false, IfSome, MatchOption, Some};
+ghost use Rattle.gw_ends.specs.Ends.{is_write_fault, MayEndWriting};
+ghost use Rattle.gw_threads.specs.Sends.{is_request, PollsOnce, SendsAll, SentAll};
 
 use crate::call::make_call;
 use crate::gate::{Gate, Place};
 use crate::lost::lose_outstation;
 use crate::streak::{REST_MS, RequestStreak};
+use dnp_app::Request;
 use gw_clock::Clock;
-use gw_ends::{Line, Outgoing, WorkerEnd};
-use gw_shared::{Calls, Pass, Reply, Step, StepFault};
+use gw_ends::{Front, Line, LineCourse, Outgoing, Sending, WorkerEnd};
+use gw_shared::{Calls, Course, Pass, Reply, Step, StepFault};
 use std::rt::Clock as Sleeps;
 use std::sync::Wait;
-use std::sync::ledger::Ledger;
 use std::thread;
 use std::time::Duration;
 
 /// Sends an outstation the requests that the core gives, until it isn't up any more, writing fails, or the worker is
 /// asked to end. Where none is due it sleeps until a step may bring one; behind 100 requests in a row it rests for 20
 /// milliseconds.
-pub fn outstation_writer<L: Ledger, S: Calls<L>, R: Wait + Sleeps, W: Outgoing, C: Clock, G: Gate>(
+pub fn outstation_writer<
+    L: Course,
+    N: LineCourse,
+    S: Calls<L>,
+    R: Wait + Sleeps,
+    W: Outgoing,
+    C: Clock,
+    G: Gate,
+>(
     rt: &R,
     shared: &S,
     pass: Pass<L>,
     outstation: u8,
-    line: &Line<W>,
+    line: &Line<W, N>,
     clock: &C,
     gate: &G,
-) -> (Pass<L>, WorkerEnd)
+) -> (Pass<L>, Front<Sending, N>, WorkerEnd)
     ensures own { result.0.actor ≡ pass.actor }
-    ensures end { MayEndSending W.has_failed result.1 }
+    // It ended by a failed write exactly where one of its requests wasn't taken whole.
+    ensures sent { SendsAll L.setup outstation pass result.0 result.1 (is_write_fault (Some result.2)) }
+    ensures end { MayEndWriting result.2 }
 {
     let mut pass = pass;
+    let mut mine = line.join(rt);
     let mut streak = RequestStreak::new();
     'requests: for _ in rt.forever() {
         let next = write_next(
@@ -39,53 +51,118 @@ pub fn outstation_writer<L: Ledger, S: Calls<L>, R: Wait + Sleeps, W: Outgoing, 
             &mut pass,
             outstation,
             line,
+            &mut mine,
             &mut streak,
             clock,
             gate,
         );
         if let Some(end) = next {
-            return (pass, end);
+            return (pass, mine, end);
         }
     }
     unreachable!()
 }
 
 /// Sends the next request, or sleeps where none is due; how the worker ends, if it does.
-fn write_next<L: Ledger, S: Calls<L>, R: Wait + Sleeps, W: Outgoing, C: Clock, G: Gate>(
+#[tactic(auto, using(crate::proofs::Requesting::sent_none, crate::proofs::Requesting::sent_loss))]
+fn write_next<
+    L: Course,
+    N: LineCourse,
+    S: Calls<L>,
+    R: Wait + Sleeps,
+    W: Outgoing,
+    C: Clock,
+    G: Gate,
+>(
     rt: &R,
     shared: &S,
     pass: &mut Pass<L>,
     outstation: u8,
-    line: &Line<W>,
+    line: &Line<W, N>,
+    mine: &mut Front<Sending, N>,
     streak: &mut RequestStreak,
     clock: &C,
     gate: &G,
 ) -> Option<WorkerEnd>
-    ensures own { pass.new.actor ≡ pass.old.actor }
-    ensures end { IfSome result (MayEndSending W.has_failed) }
+    ensures sent { SentAll L.setup outstation pass.old pass.new mine.old mine.new (is_write_fault result) }
+    ensures end { IfSome result MayEndWriting }
 {
     // Read before all that a ring may tell of.
     let rung = rung::<L, S>(shared, outstation);
     if shared.stopping() {
         return Some(WorkerEnd::Stopping);
     }
-    let end = match poll(rt, shared, pass, outstation, clock, gate) {
-        Ok(Reply::Request(request)) => {
-            gate.at(pass.actor(), Place::BeforeWrite);
-            if line.request(rt, &request).is_ok() {
-                rest(rt, streak, clock.moment());
-                return None;
-            }
-            WorkerEnd::WriteFault
-        }
-        Ok(_) => {
-            wait::<L, S, R>(rt, shared, outstation, rung);
-            return None;
-        }
-        Err(_) => WorkerEnd::Stopping,
-    };
+    let end = send_next(
+        rt, shared, pass, outstation, line, mine, streak, rung, clock, gate,
+    )?;
     lose_outstation(rt, shared, pass, outstation, clock, gate);
     Some(end)
+}
+
+/// Sends the next request, or sleeps where none is due; why the outstation is lost, if it is.
+#[tactic(auto, using(crate::proofs::Requesting::sent_request, crate::proofs::Requesting::sent_nothing))]
+fn send_next<
+    L: Course,
+    N: LineCourse,
+    S: Calls<L>,
+    R: Wait + Sleeps,
+    W: Outgoing,
+    C: Clock,
+    G: Gate,
+>(
+    rt: &R,
+    shared: &S,
+    pass: &mut Pass<L>,
+    outstation: u8,
+    line: &Line<W, N>,
+    mine: &mut Front<Sending, N>,
+    streak: &mut RequestStreak,
+    rung: u64,
+    clock: &C,
+    gate: &G,
+) -> Option<WorkerEnd>
+    ensures sent { SentAll L.setup outstation pass.old pass.new mine.old mine.new (is_write_fault result) }
+    ensures end { IfSome result MayEndWriting }
+{
+    let answer = poll(rt, shared, pass, outstation, clock, gate);
+    match request_in(&answer) {
+        Some(request) => {
+            gate.at(pass.actor(), Place::BeforeWrite);
+            match line.request(rt, mine, &request) {
+                Ok(()) => {
+                    rest(rt, streak, clock.moment());
+                    None
+                }
+                Err(_) => Some(WorkerEnd::WriteFault),
+            }
+        }
+        None => {
+            if answer.is_err() {
+                return Some(WorkerEnd::Stopping);
+            }
+            wait::<L, S, R>(rt, shared, outstation, rung);
+            None
+        }
+    }
+}
+
+/// The request of an answer, if it is one.
+fn request_in(answer: &Result<Reply, StepFault>) -> Option<Request>
+    ensures { MatchOption result (is_request answer.now ≡ false) (λ request. answer.now ≡ Ok (Reply.Request request)) }
+{
+    match answer {
+        Ok(Reply::Request(request)) => Some(*request),
+        Ok(
+            Reply::Done
+            | Reply::Verdict(_)
+            | Reply::Apdu(_)
+            | Reply::Taken
+            | Reply::Closed(_)
+            | Reply::Nothing
+            | Reply::Ticked { .. },
+        )
+        | Err(_) => None,
+    }
 }
 
 /// Rests behind a request that went at a moment, where it ends a streak.
@@ -96,14 +173,14 @@ fn rest<R: Sleeps>(rt: &R, streak: &mut RequestStreak, moment: u64) {
 }
 
 /// Waits until the outstation's bell was rung more often.
-fn wait<L: Ledger, S: Calls<L>, R: Wait>(rt: &R, shared: &S, outstation: u8, rung: u64) {
+fn wait<L: Course, S: Calls<L>, R: Wait>(rt: &R, shared: &S, outstation: u8, rung: u64) {
     if let Some(bell) = shared.outstation_bell(outstation) {
         bell.wait(rt, rung);
     }
 }
 
 /// How often the outstation's bell was rung.
-fn rung<L: Ledger, S: Calls<L>>(shared: &S, outstation: u8) -> u64 {
+fn rung<L: Course, S: Calls<L>>(shared: &S, outstation: u8) -> u64 {
     match shared.outstation_bell(outstation) {
         Some(bell) => bell.rung(),
         None => 0,
@@ -111,7 +188,7 @@ fn rung<L: Ledger, S: Calls<L>>(shared: &S, outstation: u8) -> u64 {
 }
 
 /// Asks the core for the next request.
-fn poll<L: Ledger, S: Calls<L>, R: Wait, C: Clock, G: Gate>(
+fn poll<L: Course, S: Calls<L>, R: Wait, C: Clock, G: Gate>(
     rt: &R,
     shared: &S,
     pass: &mut Pass<L>,
@@ -119,7 +196,7 @@ fn poll<L: Ledger, S: Calls<L>, R: Wait, C: Clock, G: Gate>(
     clock: &C,
     gate: &G,
 ) -> Result<Reply, StepFault>
-    ensures { pass.new.actor ≡ pass.old.actor }
+    ensures { PollsOnce L.setup outstation pass.old pass.new result }
 {
     let step = Step::Poll {
         outstation,

@@ -1,20 +1,19 @@
 //! What gives the replies to pumps.
 ghost use Rattle.std.specs.Prelude.{◌≡◌};
-ghost use Rattle.gw_threads.specs.Written.{gathered_by, GivesTo};
+ghost use Rattle.gw_threads.specs.Written.{gathered_by, GivesTo, TellsLoss};
 
 use crate::call::Run;
 use crate::gate::{Gate, Place};
 use crate::lost::lose_client;
 use gw_clock::Clock;
 use gw_ends::{Batch, Gathered, Source};
-use gw_shared::{Calls, Pass, Pumped};
+use gw_shared::{Calls, Course, Pass, Pumped};
 use std::marker::Model;
 use std::sync::Wait;
-use std::sync::ledger::Ledger;
 
 /// The shared core, pumped for one client with a pass.
 #[derive(Drop)]
-pub struct SharedSource<'a, L: Ledger, S: Calls<L>, R: Wait, C: Clock, G: Gate> {
+pub struct SharedSource<'a, L: Course, S: Calls<L>, R: Wait, C: Clock, G: Gate> {
     rt: &'a R,
     shared: &'a S,
     pass: Pass<L>,
@@ -23,16 +22,16 @@ pub struct SharedSource<'a, L: Ledger, S: Calls<L>, R: Wait, C: Clock, G: Gate> 
     gate: &'a G,
 }
 
-impl<'a, L: Ledger, S: Calls<L>, R: Wait, C: Clock, G: Gate> Model
+impl<'a, L: Course, S: Calls<L>, R: Wait, C: Clock, G: Gate> Model
     for SharedSource<'a, L, S, R, C, G> {
     ghost use Rattle.gw_threads.specs.Written.{Asking};
 
     ghost Value = { Asking };
 
-    ghost view = { λ s. record { client = s.client; actor = s.pass.actor } };
+    ghost view = { λ s. record { client = s.client; pass = s.pass } };
 }
 
-impl<'a, L: Ledger, S: Calls<L>, R: Wait, C: Clock, G: Gate> SharedSource<'a, L, S, R, C, G> {
+impl<'a, L: Course, S: Calls<L>, R: Wait, C: Clock, G: Gate> SharedSource<'a, L, S, R, C, G> {
     /// A worker with a pass, which asks for a client.
     pub fn new(
         rt: &'a R,
@@ -42,7 +41,7 @@ impl<'a, L: Ledger, S: Calls<L>, R: Wait, C: Clock, G: Gate> SharedSource<'a, L,
         clock: &'a C,
         gate: &'a G,
     ) -> SharedSource<'a, L, S, R, C, G>
-        ensures { result ≡ record { client = client; actor = pass.actor } }
+        ensures { result ≡ record { client = client; pass = pass } }
     {
         SharedSource {
             rt,
@@ -56,7 +55,7 @@ impl<'a, L: Ledger, S: Calls<L>, R: Wait, C: Clock, G: Gate> SharedSource<'a, L,
 
     /// Its pass.
     pub fn into_pass(self) -> Pass<L>
-        ensures { result.actor ≡ self.entry.actor }
+        ensures { result ≡ self.entry.pass }
     {
         let SharedSource { pass, .. } = self;
         pass
@@ -84,7 +83,8 @@ impl<'a, L: Ledger, S: Calls<L>, R: Wait, C: Clock, G: Gate> SharedSource<'a, L,
 
     /// The connection is lost.
     pub fn lose(&mut self)
-        ensures { self.new ≡ self.old }
+        ensures client { self.new.client ≡ self.old.client }
+        ensures told { TellsLoss L.setup self.old.client self.old.pass self.new.pass }
     {
         lose_client(
             self.rt,
@@ -97,9 +97,9 @@ impl<'a, L: Ledger, S: Calls<L>, R: Wait, C: Clock, G: Gate> SharedSource<'a, L,
     }
 }
 
-impl<'a, L: Ledger, S: Calls<L>, R: Wait, C: Clock, G: Gate> Source
+impl<'a, L: Course, S: Calls<L>, R: Wait, C: Clock, G: Gate> Source
     for SharedSource<'a, L, S, R, C, G> {
-    ghost Gives = { GivesTo };
+    ghost Gives = { GivesTo L.setup };
 
     fn gather(&mut self, batch: &mut Batch) -> Gathered {
         if self.shared.stopping() {

@@ -5,10 +5,9 @@ use crate::call::make_call;
 use crate::gate::Gate;
 use gw_clock::Clock;
 use gw_ends::WorkerEnd;
-use gw_shared::{Calls, Pass, Step};
+use gw_shared::{Calls, Course, Pass, Step};
 use std::rt::Clock as Sleeps;
 use std::sync::Wait;
-use std::sync::ledger::Ledger;
 use std::thread;
 use std::time::Duration;
 
@@ -22,7 +21,7 @@ const PIECE_MS: u64 = 100;
 const PIECES: u32 = 10;
 
 /// Makes a tick every 100 milliseconds, until it is asked to end or no further step can be counted.
-pub fn clock<L: Ledger, S: Calls<L>, R: Wait + Sleeps, C: Clock, G: Gate>(
+pub fn clock<L: Course, S: Calls<L>, R: Wait + Sleeps, C: Clock, G: Gate>(
     rt: &R,
     shared: &S,
     pass: Pass<L>,
@@ -43,7 +42,7 @@ pub fn clock<L: Ledger, S: Calls<L>, R: Wait + Sleeps, C: Clock, G: Gate>(
 }
 
 /// Makes a tick; whether it was made.
-fn tick<L: Ledger, S: Calls<L>, R: Wait, C: Clock, G: Gate>(
+fn tick<L: Course, S: Calls<L>, R: Wait, C: Clock, G: Gate>(
     rt: &R,
     shared: &S,
     pass: &mut Pass<L>,
@@ -57,7 +56,7 @@ fn tick<L: Ledger, S: Calls<L>, R: Wait, C: Clock, G: Gate>(
 }
 
 /// Lets a second pass, or less where the server ends.
-pub fn pause<L: Ledger, S: Calls<L>, R: Sleeps>(rt: &R, shared: &S) {
+pub fn pause<L: Course, S: Calls<L>, R: Sleeps>(rt: &R, shared: &S) {
     for _ in 0..PIECES {
         if shared.stopping() {
             return;

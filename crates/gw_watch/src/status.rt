@@ -6,13 +6,12 @@ use gw_http::{HttpRequest, Resource, answer, receive, refuse};
 use gw_model::Memory;
 use gw_peers::{ClientCard, Desk, OutstationCard, Plan, look_up_from_accept, shut};
 use gw_status::{ClientStatus, Metrics, OrderStatus, OutstationStatus, Page, Status};
-use gw_threads::{Calls, Clock, Figures, OrderCounts, pause};
+use gw_threads::{Calls, Clock, Course, Figures, OrderCounts, pause};
 use std::alloc::Global;
 use std::io::{self, ErrorKind, Read, Write};
 use std::net::TcpStream;
 use std::rt::Clock as Sleeps;
 use std::sync::Wait;
-use std::sync::ledger::Ledger;
 use std::time::Duration;
 
 /// The milliseconds that a request may take to come, and those that its answer may take to be sent.
@@ -96,7 +95,7 @@ impl<'a, C: Clock> Write for Punctual<'a, C> {
 }
 
 /// Answers requests, one after another, until the server ends, where the status is served.
-pub fn serve_status<L: Ledger, S: Calls<L>, R: Wait + Sleeps, C: Clock>(
+pub fn serve_status<L: Course, S: Calls<L>, R: Wait + Sleeps, C: Clock>(
     desk: &Desk<'_, R, C>,
     shared: &S,
     site: &Site<'_>,
@@ -118,7 +117,7 @@ pub fn serve_status<L: Ledger, S: Calls<L>, R: Wait + Sleeps, C: Clock>(
 }
 
 /// Answers the request that comes on a connection, if one comes in time.
-fn serve_request<L: Ledger, S: Calls<L>, R: Wait, C: Clock>(
+fn serve_request<L: Course, S: Calls<L>, R: Wait, C: Clock>(
     desk: &Desk<'_, R, C>,
     shared: &S,
     site: &Site<'_>,

@@ -1,15 +1,13 @@
 //! Tests of what calls on a shared core tell of the orders that end without an answer, and of how orders are counted.
-ghost use Rattle.std.specs.Prelude.{◌≡◌};
+ghost use Rattle.test_tools.specs.Opening.{IsFor};
 
 use crate::checks::same;
 use gw_capture::{Instruction, read_instruction};
-use gw_hub::Hub;
-use gw_map::Settings;
-use gw_shared::{Calls, Fate, Pass, Settled, Shared, Step};
+use gw_shared::{Calls, Course, Fate, Settled, Step};
 use std::marker::Brand;
 use std::process::Abort;
 use std::sync::Wait;
-use std::sync::ledger::{Blank, Ledger};
+use test_tools::{Opening, TestCore};
 
 /// Two outstations with a control each.
 const SETTINGS: &str = "\
@@ -81,50 +79,50 @@ const FIFTH_LET_GO: Settled = Settled {
 /// What happens then; the orders that end by that without an answer; and how many of the two orders for the first
 /// outstation were done, failed, were let go, and wait still.
 #[derive(Clone, Copy)]
-struct Course {
+struct Sequel {
     lines: &'static [&'static str],
     settled: &'static [Settled],
     counts: [u64; 4],
 }
 
 /// Losses, the ways in which a session ends, and an answer that doesn't come.
-const COURSES: &[Course] = &[
-    Course {
+const SEQUELS: &[Sequel] = &[
+    Sequel {
         lines: &["down 1 1"],
         settled: &[THIRD_LOST],
         counts: [0, 0, 0, 2],
     },
-    Course {
+    Sequel {
         lines: &["down 0 1"],
         settled: &[FIRST_LOST, SECOND_LOST],
         counts: [0, 2, 0, 0],
     },
     // STOPDT act.
-    Course {
+    Sequel {
         lines: &["frame 0 1 68 04 13 00 00 00", DONE, "close 0 2"],
         settled: &[SECOND_LET_GO, THIRD_LET_GO],
         counts: [1, 0, 1, 0],
     },
-    Course {
+    Sequel {
         lines: &["close 0 1", "down 0 2"],
         settled: &[SECOND_LET_GO, THIRD_LET_GO, FIRST_LOST],
         counts: [0, 1, 1, 0],
     },
     // An N(R) that nothing was sent with.
-    Course {
+    Sequel {
         lines: &["frame 0 1 68 04 01 00 FE FF", DONE],
         settled: &[SECOND_LET_GO, THIRD_LET_GO],
         counts: [1, 0, 1, 0],
     },
     // The answer to the first command isn't acknowledged before t1 expires.
-    Course {
+    Sequel {
         lines: &["tick 5000", "pump 0 5000", "tick 20000"],
         settled: &[FIRST_UNANSWERED, SECOND_LET_GO, THIRD_LET_GO],
         counts: [0, 1, 1, 0],
     },
     // The same with a second client, whose command came before the last one of the first, and whose interrogation's
     // confirmation isn't acknowledged either. What one tick lets go is told client by client.
-    Course {
+    Sequel {
         lines: &[
             "tick 5000",
             "open 1 5000",
@@ -150,43 +148,38 @@ const COURSES: &[Course] = &[
 
 #[test]
 fn orders(rt: HostRuntime) {
-    for course in COURSES {
-        let settings = Settings::read(rt.alloc(), SETTINGS).expect(&rt, "settings");
-        let hub = Hub::new(rt.alloc(), settings).expect(&rt, "a hub");
-        run::<Brand, _>(&rt, Blank::new(1), hub, course);
+    for sequel in SEQUELS {
+        let opening = Opening::of(rt.alloc(), 1, SETTINGS).expect(&rt, "an opening");
+        run::<Brand, _>(&rt, opening, sequel);
     }
 }
 
-/// Goes through a course on a core of its own.
-fn run<L: Ledger, R: Wait + Abort + AllocGlobal>(rt: &R, blank: Blank, hub: Hub, course: &Course)
-    requires name { blank.name ≡ L.name }
-    requires parts { (blank.parts ≡ L.parts) × (blank.parts ≡ 1) }
+/// Goes through it on a core of its own.
+fn run<L: Course, R: Wait + Abort + AllocGlobal>(rt: &R, opening: Opening, sequel: &Sequel)
+    requires { IsFor L.name L.parts L.book L.setup 1 opening }
 {
-    let (shared, mut passes) = Shared::<L, Hub>::new(rt.alloc(), blank, hub, 1, 8).expect(
-        rt,
-        "a shared core",
-    );
-    let mut pass = passes.pop().expect(rt, "a pass");
+    let mut core = TestCore::<L>::new(rt.alloc(), opening, 1, 8).expect(rt, "a core");
     let mut ended = Vec::new(rt.alloc());
-    for lines in [BEGINNING, course.lines] {
+    for lines in [BEGINNING, sequel.lines] {
         for line in lines {
-            make(rt, &shared, &mut pass, line, &mut ended);
+            make(rt, &mut core, line, &mut ended);
         }
     }
-    assert!(rt; ended.as_slice() == course.settled);
-    check_counts(rt, &shared, course);
+    assert!(rt; ended.as_slice() == sequel.settled);
+    check_counts(rt, &core, sequel);
+    core.total(rt).expect(rt, "all passes");
 }
 
 /// Makes the step of a line, and adds the orders that ended by it without an answer.
-fn make<L: Ledger, R: Wait + Abort + AllocGlobal>(
+fn make<L: Course, R: Wait + Abort + AllocGlobal>(
     rt: &R,
-    shared: &Shared<L, Hub>,
-    pass: &mut Pass<L>,
+    core: &mut TestCore<L>,
     line: &str,
     ended: &mut Vec<Settled>,
 ) {
-    let (_, reply) = shared.step(rt, pass, step_of(rt, line));
+    let (_number, reply) = core.step(rt, 0, step_of(rt, line)).expect(rt, "a pass");
     assert!(rt; reply.is_ok(), "{line}");
+    let pass = core.passes.get_mut(0).expect(rt, "a pass");
     ended
         .extend_from_slice(pass.orders().settled())
         .expect(rt, "memory");
@@ -201,9 +194,9 @@ fn step_of<R: Abort + AllocGlobal>(rt: &R, line: &str) -> Step {
 }
 
 /// The two orders for the first outstation are counted so.
-fn check_counts<L: Ledger, R: Wait + Abort>(rt: &R, shared: &Shared<L, Hub>, course: &Course) {
-    let orders = shared.figures(rt).orders[0];
+fn check_counts<L: Course, R: Wait + Abort>(rt: &R, core: &TestCore<L>, sequel: &Sequel) {
+    let orders = core.shared.figures(rt).orders[0];
     let counts = [orders.done, orders.failed, orders.let_go, orders.waiting()];
     same(rt, &orders.accepted, &2);
-    same(rt, &counts, &course.counts);
+    same(rt, &counts, &sequel.counts);
 }

@@ -3,21 +3,26 @@
 #![tactic(auto)]
 
 mod asking;
+mod cores;
 mod machine_source;
 mod memory;
 mod opening;
 mod peers;
+mod spent;
 
 pub use asking::{Answer, Turn, answer_of, replies_of, step_of, steps_of, text_of};
+pub use cores::{Recorder, Shared, TestCore};
 pub use gw_capture::{has_line, push_reply, push_step};
+pub use gw_ends::open_line;
 pub use gw_hub::{Counts, Hub, Machine};
 pub use gw_readers::{
-    Arrival, Batch, Calls, CloseFault, Entry, Gate, Incoming, Kept, KeptStep, Line, OpenGate,
-    Outgoing, Pass, Place, Put, Reply, Step, StepFault, Unwritten, Why, WorkerEnd, client_writer,
-    clock, outstation_writer, put_out,
+    Arrival, Batch, Calls, CloseFault, Course, Entry, Gate, Incoming, Kept, KeptStep, Line,
+    LineCourse, OpenGate, Opened, Outgoing, Pass, Place, Put, Reply, Sending, Step, StepFault,
+    Unwritten, Why, WorkerEnd, client_writer, clock, outstation_writer, put_out,
 };
 pub use gw_steps::Verdict;
 pub use machine_source::MachineSource;
 pub use memory::{Client, Sent, has_termination, read_client, read_outstation};
-pub use opening::{Recorder, Shared, TestCore, hub_on, replies_of_run};
+pub use opening::{Opening, hub_on, replies_of_run};
 pub use peers::{FROM_CLIENT, MASTER, SOURCES, Source, Still, TWO_OUTSTATIONS};
+pub use spent::Spent;

@@ -1,17 +1,16 @@
 //! Ends of connections in memory.
-ghost use Rattle.std.specs.Prelude.{false, None};
+ghost use Rattle.std.specs.Prelude.{◌≡◌, false, None};
 
-use crate::opening::Shared;
+use crate::cores::Shared;
 use crate::peers::{MASTER, Source, Still};
 use dnp_receive::Receiver;
 use gw_readers::{
-    Arrival, Gate, Incoming, Line, Outgoing, Pass, Patience, Unwritten, WorkerEnd, client_reader,
-    outstation_reader,
+    Arrival, Calls, Course, Gate, Incoming, Line, LineCourse, Opened, Outgoing, Pass, Patience,
+    Sending, Unwritten, WorkerEnd, client_reader, outstation_reader,
 };
 use std::alloc::Global;
 use std::sync::Wait;
 use std::sync::atomic::{AtomicBool, Ordering};
-use std::sync::ledger::Ledger;
 
 /// How many octets come at once at most, so that frames and APDUs come in pieces.
 const PIECE: usize = 7;
@@ -106,9 +105,9 @@ pub fn has_termination(octets: &[u8]) -> bool {
 }
 
 /// Reads what a client sends.
-pub fn read_client<L: Ledger, R: Wait + AllocGlobal, I: Incoming, G: Gate>(
+pub fn read_client<L: Course, S: Calls<L>, R: Wait + AllocGlobal, I: Incoming, G: Gate>(
     rt: &R,
-    shared: &Shared<L>,
+    shared: &S,
     pass: Pass<L>,
     client: u8,
     input: &mut I,
@@ -118,16 +117,23 @@ pub fn read_client<L: Ledger, R: Wait + AllocGlobal, I: Incoming, G: Gate>(
 }
 
 /// Reads what an outstation sends.
-pub fn read_outstation<L: Ledger, R: Wait + AllocGlobal, I: Incoming, W: Outgoing, G: Gate>(
+pub fn read_outstation<
+    L: Course,
+    N: LineCourse,
+    R: Wait + AllocGlobal,
+    I: Incoming,
+    W: Outgoing,
+    G: Gate,
+>(
     rt: &R,
     shared: &Shared<L>,
     pass: Pass<L>,
     source: &Source,
     input: &mut I,
-    line: &Line<W>,
+    line: &Line<W, N>,
     gate: &G,
 ) -> (Pass<L>, WorkerEnd) {
-    outstation_reader(
+    let (pass, _front, end) = outstation_reader(
         rt.alloc(),
         rt,
         shared,
@@ -142,5 +148,23 @@ pub fn read_outstation<L: Ledger, R: Wait + AllocGlobal, I: Incoming, W: Outgoin
             for_clients: 0,
             for_answers: u64::MAX,
         },
-    )
+    );
+    (pass, end)
+}
+
+/// The same, on a line of its own.
+pub fn read_alone<L: Course, N: LineCourse, R: Wait + AllocGlobal, I: Incoming, G: Gate>(
+    rt: &R,
+    shared: &Shared<L>,
+    pass: Pass<L>,
+    source: &Source,
+    input: &mut I,
+    history: Opened<Sending>,
+    gate: &G,
+) -> (Pass<L>, WorkerEnd)
+    requires book { history.seen.book ≡ N.book }
+    requires first { (N.first ≡ None) × (N.failed ≡ false) }
+{
+    let line: Line<Outstation, N> = Line::new(Outstation, MASTER, source.address, history);
+    read_outstation(rt, shared, pass, source, input, &line, gate)
 }

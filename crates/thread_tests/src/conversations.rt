@@ -1,6 +1,6 @@
 //! Tests of gw_shared and gw_record: steps that two actors make in turn are answered as `Hub::run` answers them, and
 //! recorded.
-ghost use Rattle.std.specs.Prelude.{◌≡◌};
+ghost use Rattle.test_tools.specs.Opening.{IsFor};
 
 use crate::checks::{same, same_list};
 use crate::telling::{entries_since, push_call, push_entry};
@@ -8,9 +8,8 @@ use gw_map::DEFAULT_SETTINGS;
 use std::marker::Brand;
 use std::process::Abort;
 use std::sync::Wait;
-use std::sync::ledger::{Blank, Ledger};
 use test_tools::{
-    Answer, Hub, Recorder, TestCore, Turn, hub_on, replies_of_run, steps_of, text_of,
+    Answer, Course, Opening, Recorder, TestCore, Turn, replies_of_run, steps_of, text_of,
 };
 
 /// An unsolicited response that is repeated, and one that nobody asked for.
@@ -253,25 +252,21 @@ const CONVERSATIONS: &[Conversation] = &[
 #[test]
 fn as_one_thread(rt: HostRuntime) {
     for conversation in CONVERSATIONS {
-        let hub = hub_on(rt.alloc(), DEFAULT_SETTINGS).expect(&rt, "a hub");
-        converse::<Brand, _>(&rt, Blank::new(2), hub, conversation);
+        let opening = Opening::of(rt.alloc(), 2, DEFAULT_SETTINGS).expect(&rt, "an opening");
+        converse::<Brand, _>(&rt, opening, conversation);
     }
 }
 
 /// Makes a conversation on a core that is new.
-fn converse<L: Ledger, R: Wait + Abort + AllocGlobal>(
+fn converse<L: Course, R: Wait + Abort + AllocGlobal>(
     rt: &R,
-    blank: Blank,
-    hub: Hub,
+    opening: Opening,
     conversation: &Conversation,
 )
-    requires name { blank.name ≡ L.name }
-    requires parts { (blank.parts ≡ L.parts) × (blank.parts ≡ 2) }
+    requires { IsFor L.name L.parts L.book L.setup 2 opening }
 {
     let Recording { room, turns, .. } = conversation.recording;
-    let mut core = TestCore::<L>::new(rt.alloc(), blank, hub, 2, (*room).max(1)).expect(
-        rt, "a core",
-    );
+    let mut core = TestCore::<L>::new(rt.alloc(), opening, 2, (*room).max(1)).expect(rt, "a core");
     let answers = core
         .answers_of(rt, turns, conversation.lines)
         .expect(rt, "answers");

@@ -1,5 +1,5 @@
 //! What outstations took, beside the calls that a recorder has kept.
-ghost use Rattle.std.specs.Prelude.{None};
+ghost use Rattle.std.specs.Prelude.{◌≡◌, false, None};
 
 use crate::checks::{same, same_list};
 use crate::held::{
@@ -28,7 +28,9 @@ pub struct Taker<'a, R> {
 
 impl<'a, R> Taker<'a, R> {
     /// One that has taken nothing.
-    pub fn new(rt: &'a R, octets: &'a Mutex<Vec<u8>>) -> Taker<'a, R> {
+    pub fn new(rt: &'a R, octets: &'a Mutex<Vec<u8>>) -> Taker<'a, R>
+        ensures { result.has_failed ≡ false }
+    {
         Taker {
             rt,
             octets,

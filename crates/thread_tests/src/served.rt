@@ -1,13 +1,12 @@
 //! Tests of whom a call on the shared core wakes, and of when a fragment is too much for a client that reads.
-ghost use Rattle.std.specs.Prelude.{◌≡◌};
+ghost use Rattle.test_tools.specs.Opening.{IsFor};
 
 use crate::checks::same;
 use gw_map::DEFAULT_SETTINGS;
 use std::marker::Brand;
 use std::process::Abort;
 use std::sync::Wait;
-use std::sync::ledger::{Blank, Ledger};
-use test_tools::{Batch, Calls, Hub, TestCore, Turn, hub_on, step_of};
+use test_tools::{Batch, Calls, Course, Opening, TestCore, Turn, step_of};
 
 /// A client has started, was told that a binary input is on, and that nothing more waits.
 const TOLD: &str = "open 0 0
@@ -28,29 +27,28 @@ nothing
 ";
 
 /// Makes the step of a line as actor 0, which is answered.
-fn make<L: Ledger, R: Wait + Abort + AllocGlobal>(rt: &R, core: &mut TestCore<L>, line: &str) {
+fn make<L: Course, R: Wait + Abort + AllocGlobal>(rt: &R, core: &mut TestCore<L>, line: &str) {
     let step = step_of(rt.alloc(), line).expect(rt, "a step");
     let (_number, answer) = core.step(rt, 0, step).expect(rt, "a pass");
     assert!(rt; answer.is_ok(), "{line}");
 }
 
 /// How often the bell of client 0 was rung.
-fn rung<L: Ledger, R: Abort>(rt: &R, core: &TestCore<L>) -> u64 {
+fn rung<L: Course, R: Abort>(rt: &R, core: &TestCore<L>) -> u64 {
     core.shared.client_bell(0).expect(rt, "a bell").rung()
 }
 
 /// The loss of an outstation wakes the writer of a client at once, which sleeps.
 #[test]
 fn a_loss_wakes(rt: HostRuntime) {
-    let hub = hub_on(rt.alloc(), DEFAULT_SETTINGS).expect(&rt, "a hub");
-    lose::<Brand, _>(&rt, Blank::new(1), hub);
+    let opening = Opening::of(rt.alloc(), 1, DEFAULT_SETTINGS).expect(&rt, "an opening");
+    lose::<Brand, _>(&rt, opening);
 }
 
-fn lose<L: Ledger, R: Wait + Abort + AllocGlobal>(rt: &R, blank: Blank, hub: Hub)
-    requires name { blank.name ≡ L.name }
-    requires parts { (blank.parts ≡ L.parts) × (blank.parts ≡ 1) }
+fn lose<L: Course, R: Wait + Abort + AllocGlobal>(rt: &R, opening: Opening)
+    requires { IsFor L.name L.parts L.book L.setup 1 opening }
 {
-    let mut core = TestCore::<L>::new(rt.alloc(), blank, hub, 1, 64).expect(rt, "a core");
+    let mut core = TestCore::<L>::new(rt.alloc(), opening, 1, 64).expect(rt, "a core");
     let turns: [Turn; 7] = [(0, 0); 7];
     assert!(rt; core.answers_so(rt, &turns, TOLD, TOLD_REPLIES));
     let before = rung(rt, &core);
@@ -92,15 +90,14 @@ const FROM_1: &str = "frag 1 0 F0 82 00 00 02 01 17 02 05 81 05 01";
 /// the queue has room for them: half of it is for what other outstations bring at the same time.
 #[test]
 fn half_a_queue(rt: HostRuntime) {
-    let hub = hub_on(rt.alloc(), SHORT_QUEUE).expect(&rt, "a hub");
-    fill::<Brand, _>(&rt, Blank::new(1), hub);
+    let opening = Opening::of(rt.alloc(), 1, SHORT_QUEUE).expect(&rt, "an opening");
+    fill::<Brand, _>(&rt, opening);
 }
 
-fn fill<L: Ledger, R: Wait + Abort + AllocGlobal>(rt: &R, blank: Blank, hub: Hub)
-    requires name { blank.name ≡ L.name }
-    requires parts { (blank.parts ≡ L.parts) × (blank.parts ≡ 1) }
+fn fill<L: Course, R: Wait + Abort + AllocGlobal>(rt: &R, opening: Opening)
+    requires { IsFor L.name L.parts L.book L.setup 1 opening }
 {
-    let mut core = TestCore::<L>::new(rt.alloc(), blank, hub, 1, 64).expect(rt, "a core");
+    let mut core = TestCore::<L>::new(rt.alloc(), opening, 1, 64).expect(rt, "a core");
     for line in [
         "open 0 0",
         "frame 0 0 68 04 07 00 00 00",
@@ -118,7 +115,7 @@ fn fill<L: Ledger, R: Wait + Abort + AllocGlobal>(rt: &R, blank: Blank, hub: Hub
 }
 
 /// Gives client 0 what waits for it: it counts as one that reads then.
-fn give<L: Ledger, R: Wait + Abort>(rt: &R, core: &mut TestCore<L>) {
+fn give<L: Course, R: Wait + Abort>(rt: &R, core: &mut TestCore<L>) {
     let pass = core.passes.get_mut(0).expect(rt, "a pass");
     core.shared.pump(rt, pass, 0, 0, &mut Batch::new());
 }

@@ -1,6 +1,7 @@
 //! Tests of the workers over memory: two outstations and two clients at once, some of whose workers are held while the
 //! others go on.
-ghost use Rattle.std.specs.Prelude.{◌≡◌};
+ghost use Rattle.std.specs.Prelude.{◌≡◌, false, None};
+ghost use Rattle.test_tools.specs.Opening.{IsFor};
 
 use crate::checks::same;
 use crate::held::{
@@ -14,13 +15,12 @@ use std::marker::Brand;
 use std::process::Abort;
 use std::rt::Clock as Sleeps;
 use std::sync::atomic::{AtomicBool, AtomicU64, Ordering};
-use std::sync::ledger::{Blank, Ledger};
 use std::sync::{Mutex, Wait};
 use std::thread::{self, Threads};
 use test_tools::{
-    Calls, Client, CloseFault, FROM_CLIENT, Hub, Line, MASTER, Pass, Recorder, SOURCES, Sent,
-    Shared, Still, TWO_OUTSTATIONS, TestCore, Turn, WorkerEnd, client_writer, clock, hub_on,
-    outstation_writer, read_client, read_outstation,
+    Calls, Client, CloseFault, Course, FROM_CLIENT, Line, LineCourse, MASTER, Opened, Opening,
+    Pass, Recorder, SOURCES, Sending, Sent, Shared, Still, TWO_OUTSTATIONS, TestCore, Turn,
+    WorkerEnd, client_writer, clock, open_line, outstation_writer, read_client, read_outstation,
 };
 
 /// How many calls the recorder keeps: more than the workers make.
@@ -56,11 +56,12 @@ const WORKERS: &[(Role, WorkerEnd)] = &[
 
 /// What all workers share.
 #[derive(Drop)]
-struct Scene<'a, 'b, L: Ledger, R: Wait> {
+struct Scene<'a, 'b, L: Course, M: LineCourse, N: LineCourse, R: Wait> {
     rt: &'a R,
     shared: &'a Shared<L>,
     gate: &'a Held<'a, R>,
-    lines: &'a [Line<Taker<'b, R>>],
+    first: &'a Line<Taker<'b, R>, M>,
+    second: &'a Line<Taker<'b, R>, N>,
     taken: &'a AllTaken,
     /// How many workers have not ended.
     at_work: AtomicU64,
@@ -104,16 +105,15 @@ const UP_TURNS: &[Turn] = &[
 
 #[test]
 fn workers(rt: HostRuntime) {
-    let hub = hub_on(rt.alloc(), TWO_OUTSTATIONS).expect(&rt, "a hub");
-    work::<Brand, _>(&rt, Blank::new(9), hub);
+    let opening = Opening::of(rt.alloc(), 9, TWO_OUTSTATIONS).expect(&rt, "an opening");
+    work::<Brand, _>(&rt, opening);
 }
 
 /// Lets the workers of all peers and the clock work until the peers' octets end.
-fn work<L: Ledger + Send + Sync, R: Host>(rt: &R, blank: Blank, hub: Hub)
-    requires name { blank.name ≡ L.name }
-    requires parts { (blank.parts ≡ L.parts) × (blank.parts ≡ 9) }
+fn work<L: Course + Send + Sync, R: Host>(rt: &R, opening: Opening)
+    requires { IsFor L.name L.parts L.book L.setup 9 opening }
 {
-    let mut core = TestCore::<L>::new(rt.alloc(), blank, hub, 9, ROOM).expect(rt, "a core");
+    let mut core = TestCore::<L>::new(rt.alloc(), opening, 9, ROOM).expect(rt, "a core");
     assert!(rt; core.answers_so(rt, UP_TURNS, UPS, "ok\nok\nok\nok\n"));
     let taken = AllTaken {
         outstations: [
@@ -131,7 +131,7 @@ fn work<L: Ledger + Send + Sync, R: Host>(rt: &R, blank: Blank, hub: Hub)
 }
 
 /// Serves the peers with these passes, which are those that come back. None of the held workers is held for too long.
-fn serve<L: Ledger + Send + Sync, R: Host>(
+fn serve<L: Course + Send + Sync, R: Host>(
     rt: &R,
     shared: &Shared<L>,
     taken: &AllTaken,
@@ -139,21 +139,9 @@ fn serve<L: Ledger + Send + Sync, R: Host>(
 ) -> Vec<Pass<L>> {
     let [client_0, client_1] = &taken.clients;
     let gate = Held::new(rt, &client_0.has_ended, &client_1.has_ended);
-    let [first, second] = SOURCES;
-    let [octets_0, octets_1] = &taken.outstations;
-    let lines = [
-        Line::new(Taker::new(rt, octets_0), MASTER, first.address),
-        Line::new(Taker::new(rt, octets_1), MASTER, second.address),
-    ];
-    let scene = Scene {
-        rt,
-        shared,
-        gate: &gate,
-        lines: &lines,
-        taken,
-        at_work: AtomicU64::new(9),
-    };
-    let passes = perform_all(&scene, passes);
+    let first = open_line().expect(rt, "a history");
+    let second = open_line().expect(rt, "a history");
+    let passes = serve_on::<L, Brand, Brand, R>(rt, shared, taken, &gate, passes, first, second);
     assert!(rt;
         !gate.is_late.load(Ordering::SeqCst),
         "a worker was held for 10 seconds"
@@ -161,16 +149,66 @@ fn serve<L: Ledger + Send + Sync, R: Host>(
     passes
 }
 
-/// Runs each worker in a thread of its own.
-fn perform_all<L: Ledger + Send + Sync, R: Host>(
-    scene: &Scene<'_, '_, L, R>,
+/// The same, on lines with these histories.
+fn serve_on<
+    L: Course + Send + Sync,
+    M: LineCourse + Send + Sync,
+    N: LineCourse + Send + Sync,
+    R: Host,
+>(
+    rt: &R,
+    shared: &Shared<L>,
+    taken: &AllTaken,
+    gate: &Held<'_, R>,
     passes: Vec<Pass<L>>,
-) -> Vec<Pass<L>> {
+    first: Opened<Sending>,
+    second: Opened<Sending>,
+) -> Vec<Pass<L>>
+    requires books { (first.seen.book ≡ M.book) × (second.seen.book ≡ N.book) }
+    requires first { (M.first ≡ None) × (N.first ≡ None) }
+    requires failed { (M.failed ≡ false) × (N.failed ≡ false) }
+{
+    let [source_0, source_1] = SOURCES;
+    let [octets_0, octets_1] = &taken.outstations;
+    let line_0: Line<Taker<'_, R>, M> = Line::new(
+        Taker::new(rt, octets_0),
+        MASTER,
+        source_0.address,
+        first,
+    );
+    let line_1: Line<Taker<'_, R>, N> = Line::new(
+        Taker::new(rt, octets_1),
+        MASTER,
+        source_1.address,
+        second,
+    );
+    let scene = Scene {
+        rt,
+        shared,
+        gate,
+        first: &line_0,
+        second: &line_1,
+        taken,
+        at_work: AtomicU64::new(9),
+    };
+    perform_all(&scene, passes)
+}
+
+/// Runs each worker in a thread of its own.
+fn perform_all<
+    L: Course + Send + Sync,
+    M: LineCourse + Send + Sync,
+    N: LineCourse + Send + Sync,
+    R: Host,
+>(scene: &Scene<'_, '_, L, M, N, R>, passes: Vec<Pass<L>>) -> Vec<Pass<L>> {
     thread::map_vec(scene.rt, passes, &|pass| perform(scene, pass)).expect(scene.rt, "memory")
 }
 
 /// Works with a pass until the worker ends, as it is to end. The last one of the peers' workers asks the clock to end.
-fn perform<L: Ledger, R: Host>(scene: &Scene<'_, '_, L, R>, pass: Pass<L>) -> Pass<L> {
+fn perform<L: Course, M: LineCourse, N: LineCourse, R: Host>(
+    scene: &Scene<'_, '_, L, M, N, R>,
+    pass: Pass<L>,
+) -> Pass<L> {
     let (role, wanted) = *WORKERS.get(pass.actor()).expect(scene.rt, "a worker");
     let (pass, end) = perform_as(scene, role, pass);
     assert!(scene.rt; end == wanted);
@@ -184,8 +222,8 @@ fn perform<L: Ledger, R: Host>(scene: &Scene<'_, '_, L, R>, pass: Pass<L>) -> Pa
 }
 
 /// Works in a role.
-fn perform_as<L: Ledger, R: Host>(
-    scene: &Scene<'_, '_, L, R>,
+fn perform_as<L: Course, M: LineCourse, N: LineCourse, R: Host>(
+    scene: &Scene<'_, '_, L, M, N, R>,
     role: Role,
     pass: Pass<L>,
 ) -> (Pass<L>, WorkerEnd) {
@@ -201,8 +239,8 @@ fn perform_as<L: Ledger, R: Host>(
     }
 }
 
-fn read_source<L: Ledger, R: Host>(
-    scene: &Scene<'_, '_, L, R>,
+fn read_source<L: Course, M: LineCourse, N: LineCourse, R: Host>(
+    scene: &Scene<'_, '_, L, M, N, R>,
     outstation: u8,
     pass: Pass<L>,
 ) -> (Pass<L>, WorkerEnd) {
@@ -212,34 +250,33 @@ fn read_source<L: Ledger, R: Host>(
     let mut input = Sent {
         rest: source.octets,
     };
-    read_outstation(
-        scene.rt,
-        scene.shared,
-        pass,
-        source,
-        &mut input,
-        line_of(scene, outstation),
-        scene.gate,
-    )
+    let (rt, shared, gate) = (scene.rt, scene.shared, scene.gate);
+    if outstation == 0 {
+        read_outstation(rt, shared, pass, source, &mut input, scene.first, gate)
+    } else {
+        read_outstation(rt, shared, pass, source, &mut input, scene.second, gate)
+    }
 }
 
-fn line_of<'a, 'b, L: Ledger, R: Host>(
-    scene: &Scene<'a, 'b, L, R>,
-    outstation: u8,
-) -> &'a Line<Taker<'b, R>> {
-    scene
-        .lines
-        .get(usize::from(outstation))
-        .expect(scene.rt, "a line")
-}
-
-fn write_outstation<L: Ledger, R: Host>(
-    scene: &Scene<'_, '_, L, R>,
+fn write_outstation<L: Course, M: LineCourse, N: LineCourse, R: Host>(
+    scene: &Scene<'_, '_, L, M, N, R>,
     outstation: u8,
     pass: Pass<L>,
 ) -> (Pass<L>, WorkerEnd) {
-    let line = line_of(scene, outstation);
-    outstation_writer(
+    if outstation == 0 {
+        write_on(scene, outstation, pass, scene.first)
+    } else {
+        write_on(scene, outstation, pass, scene.second)
+    }
+}
+
+fn write_on<'b, L: Course, M: LineCourse, N: LineCourse, O: LineCourse, R: Host>(
+    scene: &Scene<'_, 'b, L, M, N, R>,
+    outstation: u8,
+    pass: Pass<L>,
+    line: &Line<Taker<'b, R>, O>,
+) -> (Pass<L>, WorkerEnd) {
+    let (pass, _front, end) = outstation_writer(
         scene.rt,
         scene.shared,
         pass,
@@ -247,11 +284,12 @@ fn write_outstation<L: Ledger, R: Host>(
         line,
         &Still,
         scene.gate,
-    )
+    );
+    (pass, end)
 }
 
-fn write_client<L: Ledger, R: Host>(
-    scene: &Scene<'_, '_, L, R>,
+fn write_client<L: Course, M: LineCourse, N: LineCourse, R: Host>(
+    scene: &Scene<'_, '_, L, M, N, R>,
     client: u8,
     pass: Pass<L>,
 ) -> (Pass<L>, WorkerEnd) {
@@ -276,7 +314,7 @@ fn write_client<L: Ledger, R: Host>(
 }
 
 /// The core isn't closed with a pass missing, which gives the others back. Gives all.
-fn check_refusal<L: Ledger, R: Host>(
+fn check_refusal<L: Course, R: Host>(
     rt: &R,
     shared: &Shared<L>,
     passes: Vec<Pass<L>>,
@@ -290,7 +328,7 @@ fn check_refusal<L: Ledger, R: Host>(
 }
 
 /// The passes that are given back where one is missing.
-fn refused<L: Ledger, R: Host>(rt: &R, shared: &Shared<L>, passes: Vec<Pass<L>>) -> Vec<Pass<L>> {
+fn refused<L: Course, R: Host>(rt: &R, shared: &Shared<L>, passes: Vec<Pass<L>>) -> Vec<Pass<L>> {
     match shared.close(rt, passes) {
         Ok(_) => rt.panic("closed with a pass missing"),
         Err((CloseFault::Missing, passes)) => passes,

@@ -1,5 +1,11 @@
--- The ledger is the one that was made for this core.
+-- The ledger and the history are those that were made for this core, and the settings are its hub's.
 use Rattle.fault_tests.proofs.cores.steps_again.Given as goal
 
-abbrev pub ghosts-interrogate : goal.ghosts-interrogate
-ghosts-interrogate g a = record { name = a.blank.name; parts = a.blank.parts }
+abbrev pub ghosts-interrogate-L-Ledger : goal.ghosts-interrogate-L-Ledger
+ghosts-interrogate-L-Ledger g a = record { name = a.opening.blank.name; parts = a.opening.blank.parts }
+
+abbrev pub ghosts-interrogate-L-Naming : goal.ghosts-interrogate-L-Naming
+ghosts-interrogate-L-Naming g a = record { book = a.opening.history.seen.book }
+
+abbrev pub ghosts-interrogate-L-Course : goal.ghosts-interrogate-L-Course
+ghosts-interrogate-L-Course g a = record { setup = a.opening.hub.setup }

@@ -1,5 +1,11 @@
--- The ledger is the one that was made for this core.
+-- The ledger and the history are those that were made for this core, and the settings are its hub's.
 use Rattle.fault_tests.proofs.writing_ends.the_second_write_fails.Given as goal
 
-abbrev pub ghosts-write : goal.ghosts-write
-ghosts-write g a = record { name = a.blank.name; parts = a.blank.parts }
+abbrev pub ghosts-write_news-L-Ledger : goal.ghosts-write_news-L-Ledger
+ghosts-write_news-L-Ledger g a = record { name = a.opening.blank.name; parts = a.opening.blank.parts }
+
+abbrev pub ghosts-write_news-L-Naming : goal.ghosts-write_news-L-Naming
+ghosts-write_news-L-Naming g a = record { book = a.opening.history.seen.book }
+
+abbrev pub ghosts-write_news-L-Course : goal.ghosts-write_news-L-Course
+ghosts-write_news-L-Course g a = record { setup = a.opening.hub.setup }

@@ -1,5 +1,11 @@
--- The ledger is the one that was made for this core.
+-- The ledger and the history are those that were made for this core, and the settings are its hub's.
 use Rattle.fault_tests.proofs.writing_ends.writing_ends.Given as goal
 
-abbrev pub ghosts-write : goal.ghosts-write
-ghosts-write g a = record { name = a.blank.name; parts = a.blank.parts }
+abbrev pub ghosts-write_run-L-Ledger : goal.ghosts-write_run-L-Ledger
+ghosts-write_run-L-Ledger g a = record { name = a.opening.blank.name; parts = a.opening.blank.parts }
+
+abbrev pub ghosts-write_run-L-Naming : goal.ghosts-write_run-L-Naming
+ghosts-write_run-L-Naming g a = record { book = a.opening.history.seen.book }
+
+abbrev pub ghosts-write_run-L-Course : goal.ghosts-write_run-L-Course
+ghosts-write_run-L-Course g a = record { setup = a.opening.hub.setup }

@@ -1,5 +1,11 @@
--- The ledger is the one that was made for this core.
+-- The ledger and the history are those that were made for this core, and the settings are its hub's.
 use Rattle.gw_server.proofs.serving.serve_as.Given as goal
 
-abbrev pub ghosts-serve_with : goal.ghosts-serve_with
-ghosts-serve_with g a = record { name = a.blank.name; parts = a.blank.parts }
+abbrev pub ghosts-serve_with-L-Ledger : goal.ghosts-serve_with-L-Ledger
+ghosts-serve_with-L-Ledger g a = record { name = a.blank.name; parts = a.blank.parts }
+
+abbrev pub ghosts-serve_with-L-Naming : goal.ghosts-serve_with-L-Naming
+ghosts-serve_with-L-Naming g a = record { book = a.history.seen.book }
+
+abbrev pub ghosts-serve_with-L-Course : goal.ghosts-serve_with-L-Course
+ghosts-serve_with-L-Course g a = record { setup = a.opening.hub.setup }

@@ -1,28 +1,38 @@
-use Rattle.std.proofs.Common.{◌||◌, Bool, Some, ap, ◌∙◌, subst}
+use Rattle.std.proofs.Common.{ℕ, ◌||◌, Bool, Some, ap, ◌∙◌, refl, subst}
 use Rattle.gw_ends.specs.Ends.{is_write_fault}
-use Rattle.gw_threads.specs.Written.{Asking, Writes, Wrote}
-use Rattle.gw_threads.proofs.Gathering.{wrote-then, writes-then}
+use Rattle.gw_threads.specs.Written.{Writes, Wrote}
+use Rattle.gw_threads.proofs.Gathering.{wrote_none, wrote-then, writes-then}
 use Rattle.gw_threads.proofs.client_writing.write_on.Goals as goal
 
 pub returns-in-Some-write_run-clause-written : goal.returns-in-Some-write_run-clause-written
 returns-in-Some-write_run-clause-written g c =
     let now = g.W.Outgoing.contents c.runs.writer in
     let behind = g.W.Outgoing.contents c.write_run.new.writer in
-    writes-then _ _ now behind c.in-Some-write_run.end c.runs.invariant.wrote
-    (subst (λ (w : Asking). Writes w.client now behind c.in-Some-write_run.end) c.runs.invariant.same
-    c.in-Some-write_run.ensures.written)
+    let end = c.in-Some-write_run.end in
+    writes-then _ _ _ c.runs.source.pass _ _ now behind end c.runs.invariant.wrote
+    (subst (λ (k : ℕ). Writes g.L.Course.setup k c.runs.source.pass c.write_run.new.source.pass now behind end)
+    c.runs.invariant.client c.in-Some-write_run.ensures.written)
 
 pub runs-preserved : goal.runs-preserved
 runs-preserved g c =
     let now = g.W.Outgoing.contents c.runs.writer in
     let behind = g.W.Outgoing.contents c.write_run.new.writer in
     record {
-      same = c.write_run.ensures.same ∙ c.runs.invariant.same;
+      client = c.write_run.ensures.client ∙ c.runs.invariant.client;
       wrote =
-          wrote-then _ _ now behind c.runs.invariant.wrote
-          (subst (λ (w : Asking). Wrote w.client now behind) c.runs.invariant.same c.in_default.ensures.written);
+          wrote-then _ _ _ c.runs.source.pass _ _ now behind c.runs.invariant.wrote
+          (subst (λ (k : ℕ). Wrote g.L.Course.setup k c.runs.source.pass c.write_run.new.source.pass now behind)
+          c.runs.invariant.client c.in_default.ensures.written);
       failed = c.in_default.ensures.failed ∙ c.runs.invariant.failed;
     }
+
+pub runs-init : goal.runs-init
+runs-init g c = record {
+  client = refl;
+  wrote = wrote_none g.L.Course.setup c.args.source.now.client c.args.source.now.pass
+      (g.W.Outgoing.contents c.args.writer.now);
+  failed = refl;
+}
 
 pub returns-in-Some-write_run-clause-failed : goal.returns-in-Some-write_run-clause-failed
 returns-in-Some-write_run-clause-failed g c =

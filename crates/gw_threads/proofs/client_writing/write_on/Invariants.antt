@@ -5,7 +5,8 @@ use Rattle.gw_threads.proofs.client_writing.write_on.Given as goal
 
 abbrev pub invariant-runs : goal.invariant-runs
 invariant-runs g l = record {
-  same : l.source ≡ l.initial.source;
-  wrote : Wrote l.initial.source.client (g.W.Outgoing.contents l.initial.writer) (g.W.Outgoing.contents l.writer);
+  client : l.source.client ≡ l.initial.source.client;
+  wrote : Wrote g.L.Course.setup l.initial.source.client l.initial.source.pass l.source.pass
+      (g.W.Outgoing.contents l.initial.writer) (g.W.Outgoing.contents l.writer);
   failed : g.W.Outgoing.has_failed l.writer ≡ g.W.Outgoing.has_failed l.initial.writer;
 }

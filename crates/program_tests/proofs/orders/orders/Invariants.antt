@@ -1,5 +1,11 @@
--- The ledger is the one that was made for this core.
+-- The ledger and the history are those that were made for this core, and the settings are its hub's.
 use Rattle.program_tests.proofs.orders.orders.Given as goal
 
-abbrev pub ghosts-run : goal.ghosts-run
-ghosts-run g a = record { name = a.blank.name; parts = a.blank.parts }
+abbrev pub ghosts-run-L-Ledger : goal.ghosts-run-L-Ledger
+ghosts-run-L-Ledger g a = record { name = a.opening.blank.name; parts = a.opening.blank.parts }
+
+abbrev pub ghosts-run-L-Naming : goal.ghosts-run-L-Naming
+ghosts-run-L-Naming g a = record { book = a.opening.history.seen.book }
+
+abbrev pub ghosts-run-L-Course : goal.ghosts-run-L-Course
+ghosts-run-L-Course g a = record { setup = a.opening.hub.setup }

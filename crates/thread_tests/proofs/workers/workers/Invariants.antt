@@ -1,5 +1,11 @@
--- The ledger is the one that was made for this core.
+-- The ledger and the history are those that were made for this core, and the settings are its hub's.
 use Rattle.thread_tests.proofs.workers.workers.Given as goal
 
-abbrev pub ghosts-work : goal.ghosts-work
-ghosts-work g a = record { name = a.blank.name; parts = a.blank.parts }
+abbrev pub ghosts-work-L-Ledger : goal.ghosts-work-L-Ledger
+ghosts-work-L-Ledger g a = record { name = a.opening.blank.name; parts = a.opening.blank.parts }
+
+abbrev pub ghosts-work-L-Naming : goal.ghosts-work-L-Naming
+ghosts-work-L-Naming g a = record { book = a.opening.history.seen.book }
+
+abbrev pub ghosts-work-L-Course : goal.ghosts-work-L-Course
+ghosts-work-L-Course g a = record { setup = a.opening.hub.setup }

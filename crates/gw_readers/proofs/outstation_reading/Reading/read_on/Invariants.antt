@@ -1,9 +1,11 @@
-use Rattle.std.proofs.Common.{◌≡◌}
+use Rattle.std.proofs.Common.{◌≡◌, false}
+use Rattle.gw_readers.specs.Confirms.{ReadsAll}
 use Rattle.gw_readers.proofs.outstation_reading.Reading.read_on.Given as goal
 
--- the pass is the one that was given, and no read failed
+-- what was owed so far was confirmed and taken whole, and no read failed
 abbrev pub invariant-pieces : goal.invariant-pieces
 invariant-pieces g l = record {
-  own : l.self.pass.actor ≡ l.fn.self.pass.actor;
+  confirmed : ReadsAll g.L.Course.setup l.initial.self.pass l.self.pass l.initial.self.front l.self.front
+      false;
   failed : g.I.Incoming.has_failed l.input ≡ g.I.Incoming.has_failed l.fn.input;
 }

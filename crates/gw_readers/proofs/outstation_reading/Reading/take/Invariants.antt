@@ -1,9 +1,11 @@
-use Rattle.std.proofs.Common.{◌≡◌, length}
+use Rattle.std.proofs.Common.{false, length}
+use Rattle.gw_readers.specs.Confirms.{ReadsAll}
 use Rattle.gw_readers.proofs.outstation_reading.Reading.take.Given as goal
 
--- the pass is the one that was given
+-- what was owed so far was confirmed, and taken whole
 abbrev pub invariant-events : goal.invariant-events
-invariant-events g l = l.self.pass.actor ≡ l.fn.self.pass.actor
+invariant-events g l =
+    ReadsAll g.L.Course.setup l.initial.self.pass l.self.pass l.initial.self.front l.self.front false
 
 -- each event uses up octets
 abbrev pub decreases-events : goal.decreases-events

@@ -1,8 +1,14 @@
-use Rattle.std.proofs.Common.{◌∙◌, ℕ, ◌+◌, ◌<◌, length, ap, sym, subst, arith}
+use Rattle.std.proofs.Common.{◌≡◌, ◌∙◌, ℕ, ◌+◌, ◌<◌, ◌∷◌, length, ap, sym, subst, arith}
 use Rattle.std.specs.Prelude.{sum}
+use Rattle.gw_steps.specs.declared.step.Step.{Step}
+use Rattle.gw_steps.specs.Runs.{Entry}
+use Rattle.one_log.specs.Follows.{Whole}
+use Rattle.gw_steps.specs.Steps.{Allowed}
 use Rattle.gw_record.specs.Recording.{Recording, Replays}
 use Rattle.gw_record.proofs.Replaying.{replays-push}
 use Rattle.gw_shared.proofs.Counting.{length-raised, sum-raised}
+use Rattle.gw_shared.specs.Reached.{entry}
+use Rattle.gw_shared.proofs.Reaching.{reached_then}
 use Rattle.gw_shared.proofs.locked.Core.make.Goals as goal
 
 pub invariant_of-self : goal.invariant_of-self
@@ -11,10 +17,22 @@ invariant_of-self g c =
     let counts = c.self.inside.recorder.counts in
     let actors = kept.1 in
     let mine = c.pass.invariant.1 in
+    let old = g.M.Machine.seen c.self.inside.machine in
+    let new = g.M.Machine.seen c.step-reply.new.self in
+    let moved : c.made.inside.step ≡ c.args.step = ap (λ (e : Entry). e.step) (c.made.view_is ∙ c.add-made.ensures.entry) in
+    let added =
+    ap (λ (w : Whole Entry). w.log) c.add-made.ensures.added
+    ∙ ap (λ (lane : ℕ). (lane, entry c.args.step c.step-reply.result) ∷ c.self.inside.head.log) c.pass.invariant.2 in
     let within : c.pass.inside.actor < length counts = omega (arith, actors, mine) in (
       omega (arith, c.add.ensures.total, c.audit.ensures.total, kept.0),
       ap (λ (r : Recording). length r.counts) c.note.ensures ∙ (length-raised _ _ ∙ kept.1),
       ap (λ (r : Recording). sum r.counts) c.note.ensures ∙ (sum-raised _ _ within ∙ ap (λ (n : ℕ). n + 1) kept.2),
-      subst (λ (r : Recording). Replays r.tape (g.M.Machine.seen c.step-reply.new.self)) (sym c.note.ensures)
-          (replays-push _ _ _ _ _ _ _ kept.3 c.step-reply.ensures.step c.step-reply.ensures.setup),
+      subst (λ (r : Recording). Replays r.tape new) (sym c.note.ensures)
+          (replays-push _ _ _ _ _ _ _ kept.3
+          (subst (λ (s : Step). Allowed old.setup old.state s c.step-reply.result new.state) (sym moved)
+          c.step-reply.ensures.step)
+          c.step-reply.ensures.setup),
+      reached_then g.L.Course.setup old new c.self.inside.head.log c.add-made.new.self.log c.self.inside.made
+          c.pass.inside.actor c.args.step c.step-reply.result kept.4 c.step-reply.ensures.step c.step-reply.ensures.sound c.attest.ensures
+          c.step-reply.ensures.setup added,
     )

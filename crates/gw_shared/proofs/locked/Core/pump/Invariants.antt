@@ -7,8 +7,8 @@ use Rattle.gw_shared.proofs.locked.Core.pump.Given as goal
 
 abbrev pub invariant-pumps : goal.invariant-pumps
 invariant-pumps g l = record {
-  made : IsMadeInto (steps.Pump l.client l.moment) l.initial.self l.self l.initial.pass l.pass l.initial.batch l.batch;
-  pumped : ArePumped l.client l.initial.batch l.batch;
+  made : IsMadeInto g.L.Course.setup (steps.Pump l.client l.moment) l.initial.self l.self l.initial.pass l.pass l.initial.batch l.batch;
+  pumped : ArePumped g.L.Course.setup l.client l.initial.pass l.pass l.initial.batch l.batch;
   counted : l.pass.made ≡ l.initial.pass.made + l._made;
   own : l.pass.actor ≡ l.initial.pass.actor;
 }

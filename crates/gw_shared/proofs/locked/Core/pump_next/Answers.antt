@@ -11,9 +11,9 @@ pub returns-in-Some-clause-made : goal.returns-in-Some-clause-made
 returns-in-Some-clause-made g c =
     let batch = c.args.batch.now in
     let answer = c.answer-number.result.0 in
-    subst (λ (core : Core). IsMadeInto (steps.Pump c.args.client c.args.moment) c.args.self.now core c.args.pass.now
+    subst (λ (core : Core). IsMadeInto g.L.Course.setup (steps.Pump c.args.client c.args.moment) c.args.self.now core c.args.pass.now
     c.answer-number.new.pass batch c.add.new.self) (sym c.self.view_is)
-    (made_one _ _ _ _ _ _ _ answer c.answer-number.ensures.step
+    (made_one _ _ _ _ _ _ _ _ answer c.answer-number.ensures.step
     (c.add.ensures
     ∙ (ap (λ (front : List ℕ). front ++ c.as_slice.result.now) c.number.ensures
     ∙ ap (λ (back : List ℕ). batch ++ back) (c.as_slice.ensures
@@ -21,5 +21,5 @@ returns-in-Some-clause-made g c =
 
 pub returns-in-None-clause-made : goal.returns-in-None-clause-made
 returns-in-None-clause-made g c =
-    made_one _ _ _ _ _ _ _ c.answer-number.result.0 c.answer-number.ensures.step
+    made_one _ _ _ _ _ _ _ _ c.answer-number.result.0 c.answer-number.ensures.step
     (c.number.ensures ∙ nothing_given _ c.answer-number.result.0 c.in-None.ensures)

@@ -1,0 +1,58 @@
+-- What was sent on a line.
+use Rattle.std.specs.Prelude.{◌≡◌, ℕ, ◌%◌, Bool, true, false, not, ◌||◌, List, [], ◌∷◌, length, map, min, take, Option}
+use Rattle.std.specs.Io.KnownBytes.{Appends}
+use Rattle.dnp_app.specs.Requests.{octets_of}
+use Rattle.dnp_transport.specs.Cut.{segments_of}
+use Rattle.one_log.specs.Follows.{Follows, Known, of_lane}
+use Rattle.gw_ends.specs.Framed.{framed}
+use Rattle.gw_ends.specs.declared.sent.Sent.{Sent}
+use Rattle.gw_ends.specs.declared.sent.Sent.TheVariants.{Reply, Confirm, Request}
+use Rattle.gw_ends.specs.declared.sent.Sending.{Sending}
+
+-- the octets that one segment carries, which are all of a request
+abbrev pub one_segment : List ℕ → List ℕ
+one_segment octets = take (min (length octets) 249) octets
+
+-- its octets, where the transport function is at this sequence number
+abbrev pub sent_octets : ℕ → ℕ → ℕ → Sent → List ℕ
+sent_octets own peer sequence (Reply frame) = frame
+sent_octets own peer sequence (Confirm octets) = framed own peer (segments_of octets (sequence % 64))
+sent_octets own peer sequence (Request request) =
+    framed own peer (segments_of (one_segment (octets_of request)) (sequence % 64))
+
+-- the whole of octets, or so many at their front
+abbrev pub part_of : Bool → ℕ → List ℕ → List ℕ
+part_of true count octets = octets
+part_of false count octets = take count octets
+
+-- a writer took the octets of what was sent: all of them, or a front of them where it wasn't taken whole
+abbrev pub Took : ℕ → ℕ → Option (List ℕ) → Option (List ℕ) → Sending → Type 0
+Took own peer before after sending =
+    (sequence : ℕ) × ((count : ℕ)
+    × Appends before after (part_of sending.whole count (sent_octets own peer sequence sending.what)))
+
+-- a writer that had taken this at first took what was sent, one after the other; the newest stands first
+abbrev pub TookAll : ℕ → ℕ → Option (List ℕ) → Option (List ℕ) → List (ℕ × Sending) → Type 0
+TookAll own peer first now [] = now ≡ first
+TookAll own peer first now (sent ∷ past) =
+    (mid : Option (List ℕ)) × (TookAll own peer first mid past × Took own peer mid now sent.1)
+
+-- something of what was sent wasn't taken whole
+abbrev pub is_cut_off : List Sending → Bool
+is_cut_off [] = false
+is_cut_off (sending ∷ past) = not sending.whole || is_cut_off past
+
+-- what was sent, by whichever worker
+abbrev pub sendings : List (ℕ × Sending) → List Sending
+sendings past = map (λ (sent : ℕ × Sending). sent.1) past
+
+-- a worker that begins to send has sent nothing
+abbrev pub IsNew : Known Sending → Type 0
+IsNew front = of_lane front.lane front.log ≡ []
+
+-- in the history of the line, of which a worker knew a beginning, it is the newest, and this worker sent nothing else
+-- meanwhile
+abbrev pub IsSent : Known Sending → Known Sending → Sent → Bool → Type 0
+IsSent old new what whole =
+    (before : List (ℕ × Sending)) × (Follows old.lane old.log before
+    × (new ≡ record { lane = old.lane; log = (old.lane, record { what = what; whole = whole }) ∷ before }))

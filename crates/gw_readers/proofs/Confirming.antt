@@ -1,0 +1,130 @@
+-- What the reader of an outstation steps and confirms, one after another.
+use Rattle.std.proofs.Common.{◌≡◌, ℕ, Bool, false, not, ◌||◌, List, [], ◌∷◌, ◌++◌, Result, refl, sym, ap, subst, ◌∙◌, append_assoc}
+use Rattle.std.specs.List.{AllByRecursion}
+use Rattle.std.proofs.lemmas.List.{append-nil}
+use Rattle.dnp_app.specs.Response.{Fragment}
+use Rattle.gw_map.specs.Settings.{Setup}
+use Rattle.gw_steps.specs.declared.step.Step.TheVariants as steps
+use Rattle.gw_steps.specs.declared.step.Reply.{Reply}
+use Rattle.gw_steps.specs.declared.step.StepFault.{StepFault}
+use Rattle.gw_shared.specs.Turn.{Answers, Pass}
+use Rattle.gw_ends.specs.declared.sent.Sent.TheVariants as sents
+use Rattle.gw_ends.specs.declared.sent.Sending.{Sending}
+use Rattle.gw_ends.specs.Sent.{IsSent}
+use Rattle.one_log.specs.Follows.{Known}
+use Rattle.gw_threads.specs.Written.{Call}
+use Rattle.gw_threads.specs.Sends.{TellsOutstationLoss}
+use Rattle.gw_threads.proofs.Gathering.{calls_own, calls_then}
+use Rattle.gw_threads.proofs.Requesting.{cuts_then, or_false, sends_then}
+use Rattle.gw_readers.specs.Confirms.{Confirms, IsRead, IsReaders, ReadsAll, confirmation_given, confirmation_in, confirmation_sent, confirmations_given, confirmations_sent}
+
+own_then : (a b : List Call) → AllByRecursion (λ (c : Call). IsRead c.step) a
+    → AllByRecursion (λ (c : Call). IsRead c.step) b → AllByRecursion (λ (c : Call). IsRead c.step) (a ++ b)
+own_then [] b first more = more
+own_then (c ∷ a) b first more = (first.0, own_then a b first.1 more)
+
+given_then : (a b : List Call) → confirmations_given (a ++ b) ≡ confirmations_given a ++ confirmations_given b
+given_then [] b = refl
+given_then (c ∷ a) b =
+    ap (λ (rest : List (List ℕ)). confirmation_given c.step c.reply ++ rest) (given_then a b)
+    ∙ sym (append_assoc (confirmation_given c.step c.reply) (confirmations_given a) (confirmations_given b))
+
+sent_then : (a b : List Sending) → confirmations_sent (a ++ b) ≡ confirmations_sent a ++ confirmations_sent b
+sent_then [] b = refl
+sent_then (s ∷ a) b =
+    ap (λ (rest : List (List ℕ)). confirmation_sent s.what ++ rest) (sent_then a b)
+    ∙ sym (append_assoc (confirmation_sent s.what) (confirmations_sent a) (confirmations_sent b))
+
+only_then : (a b : List Sending) → AllByRecursion (λ (s : Sending). IsReaders s.what) a
+    → AllByRecursion (λ (s : Sending). IsReaders s.what) b → AllByRecursion (λ (s : Sending). IsReaders s.what) (a ++ b)
+only_then [] b first more = more
+only_then (s ∷ a) b first more = (first.0, only_then a b first.1 more)
+
+pub reads_then : (setup : Setup) (mine mid after : Pass) (x y z : Known Sending) (a b : Bool)
+    → ReadsAll setup mine mid x y a → ReadsAll setup mid after y z b → ReadsAll setup mine after x z (a || b)
+reads_then setup mine mid after x y z a b first more = record {
+  calls = first.calls ++ more.calls;
+  made = calls_then setup mine mid after first.calls more.calls first.made more.made;
+  own = own_then first.calls more.calls first.own more.own;
+  sends = first.sends ++ more.sends;
+  sent = sends_then x y z first.sends more.sends first.sent more.sent;
+  only = only_then first.sends more.sends first.only more.only;
+  same =
+      sent_then first.sends more.sends
+      ∙ (ap (λ (l : List (List ℕ)). l ++ confirmations_sent more.sends) first.same
+      ∙ (ap (λ (l : List (List ℕ)). confirmations_given first.calls ++ l) more.same
+      ∙ sym (given_then first.calls more.calls)));
+  cut_is = cuts_then first.sends more.sends a b first.cut_is more.cut_is;
+}
+
+pub reads_none : (setup : Setup) (mine : Pass) (x : Known Sending) → ReadsAll setup mine mine x x false
+reads_none setup mine x =
+    record { calls = []; made = refl; own = tt; sends = []; sent = refl; only = tt; same = refl; cut_is = refl }
+
+-- a reply of the link was sent
+pub reads_reply : (setup : Setup) (mine : Pass) (x y : Known Sending) (frame : List ℕ) (whole cut : Bool)
+    → IsSent x y (sents.Reply frame) whole → not whole ≡ cut → ReadsAll setup mine mine x y cut
+reads_reply setup mine x y frame whole cut sent cut_is = record {
+  calls = [];
+  made = refl;
+  own = tt;
+  sends = record { what = sents.Reply frame; whole = whole } ∷ [];
+  sent = (y, (sent, refl));
+  only = (tt, tt);
+  same = refl;
+  cut_is = or_false (not whole) ∙ cut_is;
+}
+
+-- a fragment was stepped, and confirmed where that is owed
+pub reads_step : (setup : Setup) (mine after : Pass) (x y : Known Sending) (f : Fragment) (moment number : ℕ)
+    (reply : Result Reply StepFault) (cut : Bool)
+    → Answers setup mine after (steps.Fragment f moment) (number, reply) → Confirms reply x y cut
+    → ReadsAll setup mine after x y cut
+reads_step setup mine after x y f moment number reply cut answers confirms = record {
+  calls = record { step = steps.Fragment f moment; number = number; reply = reply } ∷ [];
+  made = (after, (answers, refl));
+  own = (tt, tt);
+  sends = confirms.sends;
+  sent = confirms.sent;
+  only = confirms.only;
+  same = confirms.same ∙ sym (append-nil (confirmation_in reply));
+  cut_is = confirms.cut_is;
+}
+
+-- the outstation was lost
+pub reads_loss : (setup : Setup) (outstation : ℕ) (mine mid after : Pass) (x y : Known Sending) (cut : Bool)
+    → ReadsAll setup mine mid x y cut → TellsOutstationLoss setup outstation mid after
+    → ReadsAll setup mine after x y cut
+reads_loss setup outstation mine mid after x y cut first loss =
+    subst (ReadsAll setup mine after x y) (or_false cut)
+    (reads_then setup mine mid after x y y cut false first (record {
+      calls = record { step = steps.OutstationDown outstation loss.0; number = loss.1.0; reply = loss.1.1.0 } ∷ [];
+      made = (after, (loss.1.1.1, refl));
+      own = (tt, tt);
+      sends = [];
+      sent = refl;
+      only = tt;
+      same = refl;
+      cut_is = refl;
+    }))
+
+pub reads_own : (setup : Setup) (mine after : Pass) (x y : Known Sending) (cut : Bool)
+    → ReadsAll setup mine after x y cut → after.actor ≡ mine.actor
+reads_own setup mine after x y cut reads = calls_own setup mine after reads.calls reads.made
+
+-- nothing is owed
+pub confirms_none : (reply : Result Reply StepFault) (x : Known Sending) → confirmation_in reply ≡ []
+    → Confirms reply x x false
+confirms_none reply x none = record { sends = []; sent = refl; only = tt; same = sym none; cut_is = refl }
+
+-- what is owed was sent
+pub confirms_one : (reply : Result Reply StepFault) (x y : Known Sending) (octets : List ℕ) (whole cut : Bool)
+    → confirmation_in reply ≡ octets ∷ [] → IsSent x y (sents.Confirm octets) whole
+    → not whole ≡ cut → Confirms reply x y cut
+confirms_one reply x y octets whole cut owes sent cut_is = record {
+  sends = record { what = sents.Confirm octets; whole = whole } ∷ [];
+  sent = (y, (sent, refl));
+  only = (tt, tt);
+  same = sym owes;
+  cut_is = or_false (not whole) ∙ cut_is;
+}

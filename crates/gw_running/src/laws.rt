@@ -1,0 +1,37 @@
+//! The promises of runs, of the shared core.
+ghost use Rattle.std.specs.Prelude.{◌≡◌, List, IfErr, IfOk};
+ghost use Rattle.gw_map.specs.Settings.{Setup};
+ghost use Rattle.gw_steps.specs.Runs.{Entry};
+ghost use Rattle.gw_shared.specs.Reached.{IsCourse};
+ghost use Rattle.gw_running.specs.Kept.{IsKeptRun, IsPromised, KeepsAll};
+
+use gw_hub::Hub;
+use gw_shared::{CloseFault, Closed, Core, Course, Pass, Shared};
+use std::sync::Wait;
+
+/// The hub under the lock is the state after the one history of its calls, and at each place of that history all
+/// promises hold. It does nothing.
+pub fn core_keeps_promises<L: Course>(core: &Core<L, Hub>)
+    ensures { IsPromised L.setup core.now.hub core.now.past core.now.made }
+{
+    core.attest();
+}
+
+/// At each place of the history that a pass knows behind a call, all promises hold.
+#[tactic(auto, using(crate::proofs::Keeping::course_promised))]
+pub fn courses_keep_promises()
+    ensures { (setup : Setup) (past : List Entry) → IsCourse setup past → KeepsAll setup past }
+{}
+
+/// Ends the counting on a shared hub (`Shared::close`): all promises were kept at each place of the one history of the
+/// calls that were counted.
+pub fn close<L: Course, R: Wait>(
+    shared: &Shared<L, Hub>,
+    rt: &R,
+    passes: Vec<Pass<L>>,
+) -> Result<Closed, (CloseFault, Vec<Pass<L>>)>
+    ensures kept { IfOk result (λ closed. IsKeptRun L.setup closed.total) }
+    ensures err { IfErr result (λ e. (e.0 ≡ CloseFault.Missing) × (e.1 ≡ passes)) }
+{
+    shared.close(rt, passes)
+}

@@ -1,0 +1,16 @@
+use Rattle.std.proofs.Common.{◌≡◌, length, rules, arith}
+use Rattle.std.proofs.lemmas.Grind.{common_steps}
+use Rattle.std.specs.Prelude.{sum}
+use Rattle.gw_record.specs.Recording.{Replays}
+use Rattle.gw_shared.proofs.Reaching.{reached_first}
+use Rattle.gw_shared.proofs.locked.Core.new.Goals as goal
+
+pub invariant_of-result : goal.invariant_of-result
+invariant_of-result g c =
+    let recorder = c.in_ok-recorder.recorder in
+    let counted : 0 ≡ c.args.book.total = search rules in
+    let actors : length recorder.counts ≡ g.L.Ledger.parts =
+    grind (arith, common_steps, c.in_ok-recorder.ensures.counts, c.requires.actors) in
+    let none : sum recorder.counts ≡ 0 = grind (arith, common_steps, c.in_ok-recorder.ensures.counts) in
+    let replays : Replays recorder.tape (g.M.Machine.seen c.args.machine) = search rules in
+    (counted, actors, none, replays, reached_first _ _ _ c.requires.first c.requires.head)

@@ -1,0 +1,15 @@
+-- The histories are those that were opened for these lines; what the outstations took isn't known, and no write has failed.
+use Rattle.std.specs.Prelude.{false, None}
+use Rattle.thread_tests.proofs.workers.serve.Given as goal
+
+abbrev pub ghosts-serve_on-M-Naming : goal.ghosts-serve_on-M-Naming
+ghosts-serve_on-M-Naming g a = record { book = a.first.seen.book }
+
+abbrev pub ghosts-serve_on-M-LineCourse : goal.ghosts-serve_on-M-LineCourse
+ghosts-serve_on-M-LineCourse g a = record { first = None; failed = false }
+
+abbrev pub ghosts-serve_on-N-Naming : goal.ghosts-serve_on-N-Naming
+ghosts-serve_on-N-Naming g a = record { book = a.second.seen.book }
+
+abbrev pub ghosts-serve_on-N-LineCourse : goal.ghosts-serve_on-N-LineCourse
+ghosts-serve_on-N-LineCourse g a = record { first = None; failed = false }
