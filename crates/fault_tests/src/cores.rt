@@ -53,7 +53,7 @@ fn steps_again(rt: HostRuntime) {
 
 /// Interrogates the station. Each step that is refused memory is made again.
 fn interrogate<L: Course, R: Wait + Print + Abort + AllocGlobal>(rt: &R, opening: Opening)
-    requires { IsFor L.name L.parts L.book L.setup 1 opening }
+    requires { IsFor L.name L.parts L.book L.setup L.roles 1 opening }
 {
     let mut core = TestCore::<L>::new(rt.alloc(), opening, 1, 64).expect(rt, "a core");
     let course = course_of(rt, &mut core);
@@ -143,7 +143,7 @@ fn start<L: Course, R: Wait + Abort + AllocGlobal>(
     opening: Opening,
     steps: Vec<Step>,
 ) -> Option<bool>
-    requires { IsFor L.name L.parts L.book L.setup 2 opening }
+    requires { IsFor L.name L.parts L.book L.setup L.roles 2 opening }
 {
     let mut core = TestCore::<L>::new(rt.alloc(), opening, 2, 2)?;
     make_start(rt, &mut core, steps);

@@ -1,4 +1,5 @@
 //! Readers of a peer that comes up on a core of its own, and is down behind them.
+ghost use Rattle.std.specs.Prelude.{None};
 ghost use Rattle.test_tools.specs.Opening.{IsFor};
 
 use crate::watched::{begin, end};
@@ -31,6 +32,8 @@ impl<'a> Input<'a> {
 }
 
 impl<'a> Incoming for Input<'a> {
+    ghost given = { λ _. None };
+
     ghost has_failed = { λ input. input.has_failed };
 
     fn receive(&mut self, buffer: &mut [u8]) -> Arrival {
@@ -49,7 +52,7 @@ pub fn read_client_on<L: Course, R: Wait + Print + Abort + AllocGlobal>(
     opening: Opening,
     input: Input<'_>,
 ) -> (WorkerEnd, u64)
-    requires { IsFor L.name L.parts L.book L.setup 1 opening }
+    requires { IsFor L.name L.parts L.book L.setup L.roles 1 opening }
 {
     let mut core = TestCore::<L>::new(rt.alloc(), opening, 1, 64).expect(rt, "a core");
     assert!(rt; core.answers_so(rt, &[(0, 1)], "open 0 0", "ok\n"));
@@ -71,7 +74,7 @@ pub fn read_outstation_on<L: Course, R: Wait + Print + Abort + AllocGlobal>(
     source: &Source,
     input: Input<'_>,
 ) -> WorkerEnd
-    requires { IsFor L.name L.parts L.book L.setup 1 opening }
+    requires { IsFor L.name L.parts L.book L.setup L.roles 1 opening }
 {
     let mut core = TestCore::<L>::new(rt.alloc(), opening, 1, 64).expect(rt, "a core");
     assert!(rt; core.answers_so(rt, &[(0, 1)], "up 0 0", "ok\n"));

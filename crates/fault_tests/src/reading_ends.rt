@@ -47,7 +47,7 @@ fn spent_ends(rt: HostRuntime) {
 
 /// A client starts on a core that can't count further calls.
 fn read_uncounted<L: Course, R: Wait + Abort + AllocGlobal>(rt: &R, opening: Opening)
-    requires { IsFor L.name L.parts L.book L.setup 1 opening }
+    requires { IsFor L.name L.parts L.book L.setup L.roles 1 opening }
 {
     let mut core = TestCore::<L>::new(rt.alloc(), opening, 1, 64).expect(rt, "a core");
     let pass = core.passes.pop().expect(rt, "a pass");

@@ -30,7 +30,7 @@ fn write_run<L: Course, R: Wait + Abort + AllocGlobal>(
     opening: Opening,
     room: usize,
 ) -> Vec<u8>
-    requires { IsFor L.name L.parts L.book L.setup 1 opening }
+    requires { IsFor L.name L.parts L.book L.setup L.roles 1 opening }
 {
     let core = TestCore::<L>::new(rt.alloc(), opening, 1, 256).expect(rt, "a core");
     let has_ended = AtomicBool::new(false);
@@ -109,7 +109,7 @@ fn the_second_write_fails(rt: HostRuntime) {
 
 /// Writes the news to a client that takes one write: what it took.
 fn write_news<L: Course, R: Wait + Abort + AllocGlobal>(rt: &R, opening: Opening) -> OneWrite
-    requires { IsFor L.name L.parts L.book L.setup 1 opening }
+    requires { IsFor L.name L.parts L.book L.setup L.roles 1 opening }
 {
     let core = TestCore::<L>::new(rt.alloc(), opening, 1, 256).expect(rt, "a core");
     let lines = lines_with_news(rt);

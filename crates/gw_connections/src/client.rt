@@ -1,17 +1,115 @@
 //! One place for clients: its workers, client after client.
+ghost use Rattle.std.specs.Thread.{IsSend, IsSync};
 
-use crate::connection::{Connection, Passes, Peer, exchange};
 use crate::ending::Ending;
 use crate::host::Host;
 use crate::house::{House, is_made};
 use crate::lookout::{ANY_TIME, tell_dropped};
+use crate::passes::{Passes, PumpPass};
 use crate::sockets::ClientSocket;
 use gw_journal::{Cause, JournalEvent};
 use gw_peers::{ClientCard, Desk, Lobby, Visit, shut};
-use gw_readers::{Calls, Clock, Course, Gate, Step, Why};
-use std::marker::Brand;
+use gw_readers::{
+    Calls, Clock, Course, Gate, Pass, Step, Why, WorkerEnd, client_reader, client_writer,
+};
 use std::net::{SocketAddr, TcpStream};
+use std::rt::Clock as Sleeps;
 use std::sync::Wait;
+use std::thread;
+
+/// The passes of the workers of a place for clients.
+pub type ClientPasses<L> = Passes<L, PumpPass<L>>;
+
+/// A connection to the client at a place.
+#[derive(Drop)]
+struct Connection<'b> {
+    stream: &'b TcpStream,
+    ending: &'b Ending,
+    client: u8,
+    socket: ClientSocket<'b>,
+}
+
+impl<'b> Connection<'b> {
+    /// The reader, and the end of its connection.
+    fn read<L: Course, S: Calls<L>, R: Wait, C: Clock, G: Gate>(
+        &self,
+        house: &House<'_, S, R, C, G>,
+        pass: Pass<L>,
+    ) -> (Pass<L>, WorkerEnd) {
+        let mut input = self.socket;
+        let (desk, shared) = (house.desk, house.shared);
+        let ended = client_reader(
+            desk.alloc,
+            desk.rt,
+            shared,
+            pass,
+            self.client,
+            &mut input,
+            desk.clock,
+            house.gate,
+        );
+        self.ending.reader();
+        shut(self.stream);
+        ended
+    }
+
+    /// The writer, and the end of its connection.
+    fn write<L: Course, S: Calls<L>, R: Wait + Sleeps, C: Clock, G: Gate>(
+        &self,
+        house: &House<'_, S, R, C, G>,
+        pass: PumpPass<L>,
+    ) -> (PumpPass<L>, WorkerEnd) {
+        let mut output = self.socket;
+        let (desk, shared) = (house.desk, house.shared);
+        let (pass, client) = pass.into_parts();
+        let (pass, end) = client_writer(
+            desk.rt,
+            shared,
+            pass,
+            client,
+            &mut output,
+            desk.clock,
+            house.gate,
+        );
+        self.end_writer();
+        (PumpPass::new(pass, client), end)
+    }
+
+    /// The writer has ended.
+    fn end_writer(&self) {
+        self.ending.writer();
+        shut(self.stream);
+    }
+}
+
+/// Both workers of a connection, the writer in a thread of its own, until both have ended; why it ended.
+fn exchange<L: Course + Send + Sync, S: Calls<L> + Sync, R: Host, C: Clock + Sync, G: Gate + Sync>(
+    house: &House<'_, S, R, C, G>,
+    connection: &Connection<'_>,
+    passes: ClientPasses<L>,
+) -> (ClientPasses<L>, Cause) {
+    let Passes { reader, writer } = passes;
+    let ((reader, read), (writer, written)) = thread::scope(
+        thread::scope_env(),
+        house.desk.rt,
+        move |scope| -> ((Pass<L>, WorkerEnd), (PumpPass<L>, WorkerEnd))
+            requires { IsSend L.row × IsSync L.row × IsSync S.row × IsSync R.row × IsSync C.row × IsSync G.row }
+        {
+            let writing = scope.spawn(move || connection.write(house, writer));
+            if writing.is_err() {
+                // No thread can be made: the reader finds the connection shut, and the writer its peer down.
+                connection.end_writer();
+            }
+            let read = connection.read(house, reader);
+            match writing {
+                Ok(thread) => (read, thread.join(house.desk.rt)),
+                Err(refused) => (read, ((refused.value)().0, WorkerEnd::Memory)),
+            }
+        },
+    );
+    let cause = connection.ending.cause(read, written);
+    (Passes { reader, writer }, cause)
+}
 
 /// Serves the clients that get this place, until no further one comes.
 pub fn serve_place<
@@ -20,8 +118,9 @@ pub fn serve_place<
     R: Host,
     C: Clock + Sync,
     G: Gate + Sync,
->(house: &House<'_, S, R, C, G>, lobby: &Lobby, place: u8, passes: Passes<L>) -> Passes<L> {
+>(house: &House<'_, S, R, C, G>, lobby: &Lobby, passes: ClientPasses<L>) -> ClientPasses<L> {
     let mut passes = passes;
+    let place = passes.writer.client();
     let Some(card) = house.desk.board.client(place) else {
         return passes;
     };
@@ -48,9 +147,9 @@ fn serve_visit<
     house: &House<'_, S, R, C, G>,
     card: &ClientCard,
     client: u8,
-    passes: Passes<L>,
+    passes: ClientPasses<L>,
     visit: Visit,
-) -> Passes<L> {
+) -> ClientPasses<L> {
     let mut passes = passes;
     let (desk, address) = (house.desk, visit.address);
     let moment = desk.clock.moment();
@@ -118,15 +217,16 @@ fn serve_stream<
 >(
     house: &House<'_, S, R, C, G>,
     client: u8,
-    passes: Passes<L>,
+    passes: ClientPasses<L>,
     stream: &TcpStream,
-) -> (Passes<L>, Cause) {
+) -> (ClientPasses<L>, Cause) {
     let ending = Ending::new();
     let socket = ClientSocket::new(stream, &ending);
-    let connection: Connection<'_, '_, Brand> = Connection {
+    let connection = Connection {
         stream,
         ending: &ending,
-        peer: Peer::Client { client, socket },
+        client,
+        socket,
     };
     exchange(house, &connection, passes)
 }

@@ -1,4 +1,5 @@
 //! What the threads share that make steps on the core.
+ghost use Rattle.gw_shared.specs.Roles.{MayMake};
 
 use gw_peers::Desk;
 use gw_readers::{Calls, Clock, Course, Gate, Pass, Step, make_call};
@@ -17,6 +18,8 @@ pub fn is_made<L: Course, S: Calls<L>, R: Wait, C: Clock, G: Gate>(
     house: &House<'_, S, R, C, G>,
     pass: &mut Pass<L>,
     step: Step,
-) -> bool {
+) -> bool
+    requires may { MayMake L.roles pass.old.actor step }
+{
     make_call(house.desk.rt, house.shared, pass, step, house.gate).is_ok()
 }

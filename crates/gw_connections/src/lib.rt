@@ -3,16 +3,15 @@
 #![tactic(auto)]
 
 mod client;
-mod connection;
 mod ending;
 mod host;
 mod house;
 mod lookout;
 mod outstation;
+mod passes;
 mod sockets;
 
-pub use client::serve_place;
-pub use connection::Passes;
+pub use client::{ClientPasses, serve_place};
 pub use gw_readers::{
     Call, Calls, Closed, Course, Gate, OpenGate, Pass, Place, Pumped, Run, Shared, Step, StepFault,
     clock,
@@ -20,4 +19,5 @@ pub use gw_readers::{
 pub use host::Host;
 pub use house::House;
 pub use lookout::{ANY_TIME, look_at_outstations, look_out};
-pub use outstation::serve_outstation;
+pub use outstation::{OutstationPasses, serve_outstation};
+pub use passes::{Passes, PollPass, PumpPass};

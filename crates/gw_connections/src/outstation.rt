@@ -1,22 +1,133 @@
 //! One outstation: its workers, connection after connection.
-
 ghost use Rattle.std.specs.Prelude.{◌≡◌, false, None};
+ghost use Rattle.std.specs.Thread.{IsSend, IsSync};
 
-use crate::connection::{Connection, Link, Passes, Peer, exchange};
 use crate::ending::Ending;
 use crate::host::Host;
 use crate::house::{House, is_made};
+use crate::passes::{Passes, PollPass};
 use crate::sockets::OutstationSocket;
+use dnp_receive::Receiver;
 use gw_ends::{LineCourse, Opened, Sending, open_line};
 use gw_journal::{Cause, Failure, JournalEvent};
 use gw_peers::{Desk, Plan, shut};
-use gw_readers::{Calls, Clock, Course, Gate, Line, Patience, Step, pause};
+use gw_readers::{
+    Calls, Clock, Course, Gate, Line, Pass, Patience, Step, WorkerEnd, outstation_reader,
+    outstation_writer, pause,
+};
 use std::marker::Brand;
 use std::net::{TcpStream, ToSocketAddrs};
+use std::rt::Clock as Sleeps;
 use std::sync::Wait;
+use std::thread;
 
 /// The milliseconds behind which it is told again that no connection could be made, though for the same reason.
 const AGAIN_MS: u64 = 3_600_000;
+
+/// The passes of an outstation's workers.
+pub type OutstationPasses<L> = Passes<L, PollPass<L>>;
+
+/// A connection to an outstation.
+#[derive(Drop)]
+struct Connection<'a, 'b, N: LineCourse> {
+    stream: &'b TcpStream,
+    ending: &'b Ending,
+    outstation: u8,
+    /// The link address of the master.
+    own: u16,
+    /// The link address of the outstation.
+    peer: u16,
+    /// How long its reader waits at most.
+    patience: Patience,
+    socket: OutstationSocket<'b>,
+    line: &'a Line<OutstationSocket<'b>, N>,
+}
+
+impl<'a, 'b, N: LineCourse> Connection<'a, 'b, N> {
+    /// The reader, and the end of its connection.
+    fn read<L: Course, S: Calls<L>, R: Wait, C: Clock, G: Gate>(
+        &self,
+        house: &House<'_, S, R, C, G>,
+        pass: Pass<L>,
+    ) -> (Pass<L>, WorkerEnd) {
+        let mut input = self.socket;
+        let (desk, shared) = (house.desk, house.shared);
+        let (pass, _, end) = outstation_reader(
+            desk.alloc,
+            desk.rt,
+            shared,
+            pass,
+            self.outstation,
+            Receiver::new(desk.alloc, self.own, self.peer),
+            &mut input,
+            self.line,
+            desk.clock,
+            house.gate,
+            self.patience,
+        );
+        self.ending.reader();
+        shut(self.stream);
+        (pass, end)
+    }
+
+    /// The writer, and the end of its connection.
+    fn write<L: Course, S: Calls<L>, R: Wait + Sleeps, C: Clock, G: Gate>(
+        &self,
+        house: &House<'_, S, R, C, G>,
+        pass: PollPass<L>,
+    ) -> (PollPass<L>, WorkerEnd) {
+        let (desk, shared) = (house.desk, house.shared);
+        let (pass, outstation) = pass.into_parts();
+        let (pass, _, end) = outstation_writer(
+            desk.rt, shared, pass, outstation, self.line, desk.clock, house.gate,
+        );
+        self.end_writer();
+        (PollPass::new(pass, outstation), end)
+    }
+
+    /// The writer has ended.
+    fn end_writer(&self) {
+        self.ending.writer();
+        shut(self.stream);
+    }
+}
+
+/// Both workers of a connection, the writer in a thread of its own, until both have ended; why it ended.
+fn exchange<
+    L: Course + Send + Sync,
+    N: LineCourse + Send + Sync,
+    S: Calls<L> + Sync,
+    R: Host,
+    C: Clock + Sync,
+    G: Gate + Sync,
+>(
+    house: &House<'_, S, R, C, G>,
+    connection: &Connection<'_, '_, N>,
+    passes: OutstationPasses<L>,
+) -> (OutstationPasses<L>, Cause) {
+    let Passes { reader, writer } = passes;
+    let ((reader, read), (writer, written)) = thread::scope(
+        thread::scope_env(),
+        house.desk.rt,
+        move |scope| -> ((Pass<L>, WorkerEnd), (PollPass<L>, WorkerEnd))
+            requires { IsSend L.row × IsSync L.row × IsSend N.row × IsSync N.row
+                × IsSync S.row × IsSync R.row × IsSync C.row × IsSync G.row }
+        {
+            let writing = scope.spawn(move || connection.write(house, writer));
+            if writing.is_err() {
+                // No thread can be made: the reader finds the connection shut, and the writer its peer down.
+                connection.end_writer();
+            }
+            let read = connection.read(house, reader);
+            match writing {
+                Ok(thread) => (read, thread.join(house.desk.rt)),
+                Err(refused) => (read, ((refused.value)().0, WorkerEnd::Memory)),
+            }
+        },
+    );
+    let cause = connection.ending.cause(read, written);
+    (Passes { reader, writer }, cause)
+}
 
 /// Keeps a connection to an outstation, until the server ends.
 pub fn serve_outstation<
@@ -25,8 +136,9 @@ pub fn serve_outstation<
     R: Host,
     C: Clock + Sync,
     G: Gate + Sync,
->(house: &House<'_, S, R, C, G>, outstation: u8, plan: &Plan, passes: Passes<L>) -> Passes<L> {
+>(house: &House<'_, S, R, C, G>, plan: &Plan, passes: OutstationPasses<L>) -> OutstationPasses<L> {
     let mut passes = passes;
+    let outstation = passes.writer.outstation();
     let mut told = None;
     for _ in house.desk.rt.forever() {
         if house.shared.stopping() {
@@ -97,9 +209,9 @@ fn serve_connection<
     house: &House<'_, S, R, C, G>,
     outstation: u8,
     plan: &Plan,
-    passes: Passes<L>,
+    passes: OutstationPasses<L>,
     stream: &TcpStream,
-) -> Passes<L> {
+) -> OutstationPasses<L> {
     let mut passes = passes;
     let moment = house.desk.clock.moment();
     if !is_made(
@@ -148,9 +260,9 @@ fn serve_stream<
     house: &House<'_, S, R, C, G>,
     outstation: u8,
     plan: &Plan,
-    passes: Passes<L>,
+    passes: OutstationPasses<L>,
     stream: &TcpStream,
-) -> (Passes<L>, Cause) {
+) -> (OutstationPasses<L>, Cause) {
     match open_line() {
         Some(history) => serve_line::<L, Brand, S, R, C, G>(
             house, outstation, plan, passes, stream, history,
@@ -171,10 +283,10 @@ fn serve_line<
     house: &House<'_, S, R, C, G>,
     outstation: u8,
     plan: &Plan,
-    passes: Passes<L>,
+    passes: OutstationPasses<L>,
     stream: &TcpStream,
     history: Opened<Sending>,
-) -> (Passes<L>, Cause)
+) -> (OutstationPasses<L>, Cause)
     requires book { history.seen.book ≡ N.book }
     requires first { N.first ≡ None }
     requires failed { N.failed ≡ false }
@@ -182,7 +294,9 @@ fn serve_line<
     let ending = Ending::new();
     let socket = OutstationSocket::new(stream, &ending, plan);
     let line: Line<OutstationSocket<'_>, N> = Line::new(socket, plan.own, plan.peer, history);
-    let link = Link {
+    let connection = Connection {
+        stream,
+        ending: &ending,
         outstation,
         own: plan.own,
         peer: plan.peer,
@@ -192,11 +306,6 @@ fn serve_line<
         },
         socket,
         line: &line,
-    };
-    let connection = Connection {
-        stream,
-        ending: &ending,
-        peer: Peer::Outstation(link),
     };
     exchange(house, &connection, passes)
 }

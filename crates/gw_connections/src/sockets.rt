@@ -102,6 +102,8 @@ fn is_timeout(error: &io::Error) -> bool {
 }
 
 impl<'a> Incoming for ClientSocket<'a> {
+    ghost given = { λ _. None };
+
     ghost has_failed = { λ socket. socket.has_failed };
 
     fn receive(&mut self, buffer: &mut [u8]) -> Arrival {
@@ -115,6 +117,8 @@ impl<'a> Incoming for ClientSocket<'a> {
 }
 
 impl<'a> Incoming for OutstationSocket<'a> {
+    ghost given = { λ _. None };
+
     ghost has_failed = { λ socket. socket.has_failed };
 
     fn receive(&mut self, buffer: &mut [u8]) -> Arrival {

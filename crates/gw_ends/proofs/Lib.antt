@@ -3,3 +3,4 @@ pub mod Framing
 pub mod Joined
 pub mod Runs
 pub mod Follow
+pub mod Worked

@@ -1,5 +1,6 @@
 -- What is read of a peer, and how workers end.
-use Rattle.std.specs.Prelude.{ℕ, ◌≤◌, Bool, true, false, Option, Some, None}
+use Rattle.std.specs.Prelude.{◌≡◌, ℕ, ◌≤◌, Bool, true, false, List, take, Option, Some, None}
+use Rattle.std.specs.Io.KnownBytes.{Appends}
 use Rattle.gw_ends.specs.declared.worker_end.WorkerEnd.{WorkerEnd}
 use Rattle.gw_ends.specs.declared.worker_end.WorkerEnd.TheVariants as ends
 use Rattle.gw_ends.specs.declared.ends.Arrival.{Arrival}
@@ -9,6 +10,11 @@ use Rattle.gw_ends.specs.declared.ends.Arrival.TheVariants.{Octets, Later, End, 
 abbrev pub IsWithin : Arrival → ℕ → Type 0
 IsWithin (Octets n) room = n ≤ room
 IsWithin _ room = Unit {0}
+
+-- behind the octets that were given before come those at the front of a buffer, or none
+abbrev pub Gives : Arrival → Option (List ℕ) → Option (List ℕ) → List ℕ → Type 0
+Gives (Octets n) before now buffer = Appends before now (take n buffer)
+Gives _ before now buffer = now ≡ before
 
 -- how a reader ends by what came, if it does
 abbrev pub reading_end : Arrival → Option WorkerEnd

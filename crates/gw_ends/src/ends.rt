@@ -1,7 +1,7 @@
 //! The two ends of a connection to a peer, as workers see them.
 ghost use Rattle.std.specs.Prelude.{◌≡◌, ◌≤◌, ◌||◌, ℕ, Bool, List, Option, is_err, length, take, OnErr, OnOk};
 ghost use Rattle.std.specs.Io.KnownBytes.{Appends};
-ghost use Rattle.gw_ends.specs.Ends.{is_fault, reading_end, IsWithin};
+ghost use Rattle.gw_ends.specs.Ends.{is_fault, reading_end, Gives, IsWithin};
 
 use crate::worker_end::WorkerEnd;
 use thiserror::Error;
@@ -41,12 +41,16 @@ impl Arrival {
 
 /// Where octets come from.
 pub trait Incoming {
+    /// The octets that it gave so far, where they are known.
+    ghost given: { Self → Option (List ℕ) };
+
     /// Whether a read has failed.
     ghost has_failed: { Self → Bool };
 
     /// Waits for octets of the peer. An interrupted wait goes on.
     fn receive(&mut self, buffer: &mut [u8]) -> Arrival
         ensures within { IsWithin result (length buffer.new) }
+        ensures given { Gives result (given self.old) (given self.new) buffer.new }
         // This read, or one before.
         ensures failed { has_failed self.new ≡ (is_fault result || has_failed self.old) };
 }

@@ -6,6 +6,7 @@
 mod answer;
 mod batch;
 mod ends;
+pub mod examples;
 mod line;
 mod putting;
 mod sent;

@@ -1,6 +1,5 @@
 -- What the reader of an outstation steps and confirms, one after another.
 use Rattle.std.proofs.Common.{◌≡◌, ℕ, Bool, false, not, ◌||◌, List, [], ◌∷◌, ◌++◌, Result, refl, sym, ap, subst, ◌∙◌, append_assoc}
-use Rattle.std.specs.List.{AllByRecursion}
 use Rattle.std.proofs.lemmas.List.{append-nil}
 use Rattle.dnp_app.specs.Response.{Fragment}
 use Rattle.gw_map.specs.Settings.{Setup}
@@ -12,22 +11,11 @@ use Rattle.gw_ends.specs.declared.sent.Sent.TheVariants as sents
 use Rattle.gw_ends.specs.declared.sent.Sending.{Sending}
 use Rattle.gw_ends.specs.Sent.{IsSent}
 use Rattle.one_log.specs.Follows.{Known}
-use Rattle.gw_threads.specs.Written.{Call}
+use Rattle.gw_threads.specs.Calls.{Call, given_by}
 use Rattle.gw_threads.specs.Sends.{TellsOutstationLoss}
-use Rattle.gw_threads.proofs.Gathering.{calls_own, calls_then}
+use Rattle.gw_threads.proofs.Calling.{calls_own, calls_then, given_then, own_then}
 use Rattle.gw_threads.proofs.Requesting.{cuts_then, or_false, sends_then}
-use Rattle.gw_readers.specs.Confirms.{Confirms, IsRead, IsReaders, ReadsAll, confirmation_given, confirmation_in, confirmation_sent, confirmations_given, confirmations_sent}
-
-own_then : (a b : List Call) → AllByRecursion (λ (c : Call). IsRead c.step) a
-    → AllByRecursion (λ (c : Call). IsRead c.step) b → AllByRecursion (λ (c : Call). IsRead c.step) (a ++ b)
-own_then [] b first more = more
-own_then (c ∷ a) b first more = (first.0, own_then a b first.1 more)
-
-given_then : (a b : List Call) → confirmations_given (a ++ b) ≡ confirmations_given a ++ confirmations_given b
-given_then [] b = refl
-given_then (c ∷ a) b =
-    ap (λ (rest : List (List ℕ)). confirmation_given c.step c.reply ++ rest) (given_then a b)
-    ∙ sym (append_assoc (confirmation_given c.step c.reply) (confirmations_given a) (confirmations_given b))
+use Rattle.gw_readers.specs.Confirms.{Confirms, IsRead, IsReaders, ReadsAll, confirmation_given, confirmation_in, confirmation_sent, confirmations_sent}
 
 sent_then : (a b : List Sending) → confirmations_sent (a ++ b) ≡ confirmations_sent a ++ confirmations_sent b
 sent_then [] b = refl
@@ -35,25 +23,20 @@ sent_then (s ∷ a) b =
     ap (λ (rest : List (List ℕ)). confirmation_sent s.what ++ rest) (sent_then a b)
     ∙ sym (append_assoc (confirmation_sent s.what) (confirmations_sent a) (confirmations_sent b))
 
-only_then : (a b : List Sending) → AllByRecursion (λ (s : Sending). IsReaders s.what) a
-    → AllByRecursion (λ (s : Sending). IsReaders s.what) b → AllByRecursion (λ (s : Sending). IsReaders s.what) (a ++ b)
-only_then [] b first more = more
-only_then (s ∷ a) b first more = (first.0, only_then a b first.1 more)
-
 pub reads_then : (setup : Setup) (mine mid after : Pass) (x y z : Known Sending) (a b : Bool)
     → ReadsAll setup mine mid x y a → ReadsAll setup mid after y z b → ReadsAll setup mine after x z (a || b)
 reads_then setup mine mid after x y z a b first more = record {
   calls = first.calls ++ more.calls;
   made = calls_then setup mine mid after first.calls more.calls first.made more.made;
-  own = own_then first.calls more.calls first.own more.own;
+  own = own_then (λ (c : Call). IsRead c.step) first.calls more.calls first.own more.own;
   sends = first.sends ++ more.sends;
   sent = sends_then x y z first.sends more.sends first.sent more.sent;
-  only = only_then first.sends more.sends first.only more.only;
+  only = own_then (λ (s : Sending). IsReaders s.what) first.sends more.sends first.only more.only;
   same =
       sent_then first.sends more.sends
       ∙ (ap (λ (l : List (List ℕ)). l ++ confirmations_sent more.sends) first.same
-      ∙ (ap (λ (l : List (List ℕ)). confirmations_given first.calls ++ l) more.same
-      ∙ sym (given_then first.calls more.calls)));
+      ∙ (ap (λ (l : List (List ℕ)). given_by confirmation_given first.calls ++ l) more.same
+      ∙ sym (given_then confirmation_given first.calls more.calls)));
   cut_is = cuts_then first.sends more.sends a b first.cut_is more.cut_is;
 }
 

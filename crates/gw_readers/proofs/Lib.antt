@@ -1,1 +1,4 @@
 pub mod Confirming
+pub mod Framing
+pub mod Hearing
+pub mod Worked

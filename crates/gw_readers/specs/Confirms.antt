@@ -14,7 +14,7 @@ use Rattle.gw_ends.specs.declared.sent.Sent.TheVariants as sents
 use Rattle.gw_ends.specs.declared.sent.Sending.{Sending}
 use Rattle.gw_ends.specs.Sent.{IsNew, is_cut_off}
 use Rattle.one_log.specs.Follows.{Known}
-use Rattle.gw_threads.specs.Written.{AreCalls, Call}
+use Rattle.gw_threads.specs.Calls.{AreCalls, Call, given_by}
 use Rattle.gw_threads.specs.Sends.{AreSent}
 
 -- a step is of a fragment, or tells that an outstation is lost
@@ -36,11 +36,6 @@ confirmation_in _ = []
 abbrev pub confirmation_given : Step → Result Reply StepFault → List (List ℕ)
 confirmation_given (steps.Fragment f moment) reply = confirmation_in reply
 confirmation_given _ reply = []
-
--- those of calls, in their order
-abbrev pub confirmations_given : List Call → List (List ℕ)
-confirmations_given [] = []
-confirmations_given (c ∷ calls) = confirmation_given c.step c.reply ++ confirmations_given calls
 
 -- the confirmations among what was sent
 abbrev pub confirmation_sent : Sent → List (List ℕ)
@@ -67,7 +62,7 @@ pub record ReadsAll (setup : Setup) (mine after : Pass) (old new : Known Sending
   pub sends : List Sending
   pub sent : AreSent old sends new
   pub only : AllByRecursion (λ (s : Sending). IsReaders s.what) sends
-  pub same : confirmations_sent sends ≡ confirmations_given calls
+  pub same : confirmations_sent sends ≡ given_by confirmation_given calls
   pub cut_is : is_cut_off sends ≡ cut
 
 -- and that is all that the worker sent since it joined the line

@@ -1,1 +1,3 @@
 pub mod Confirms
+pub mod Frames
+pub mod Heard

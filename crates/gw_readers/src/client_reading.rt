@@ -1,6 +1,8 @@
 //! The reader of a client.
-ghost use Rattle.std.specs.Prelude.{◌≡◌, ◌||◌, IfSome, Some};
+ghost use Rattle.std.specs.Prelude.{◌≡◌, ◌||◌, [], IfNone, IfSome, Ok, Some};
+ghost use Rattle.iec_apci.specs.Calls.{ending_after_piece, reading_of_ending};
 ghost use Rattle.gw_ends.specs.Ends.{is_read_fault, IsOfSteps, MayEnd};
+ghost use Rattle.gw_readers.specs.Frames.{end_by, Asks, Frames, Loses, Reads, Takes, TakesAnswer};
 
 use gw_ends::{Arrival, Incoming, WorkerEnd};
 use gw_threads::{
@@ -38,6 +40,7 @@ pub fn client_reader<'a, L: Course, S: Calls<L>, R: Wait, I: Incoming, C: Clock,
     gate: &'a G,
 ) -> (Pass<L>, WorkerEnd)
     ensures own { result.0.actor ≡ pass.actor }
+    ensures framed { Frames L.setup client pass result.0 (I.given input.old) (I.given input.new) result.1 }
     ensures end { MayEnd result.1 }
     // It ended by a failed read exactly where one failed, unless one had before.
     ensures failed { I.has_failed input.new ≡ (is_read_fault (Some result.1) || I.has_failed input.old) }
@@ -60,7 +63,10 @@ pub fn client_reader<'a, L: Course, S: Calls<L>, R: Wait, I: Incoming, C: Clock,
 impl<'a, L: Course, S: Calls<L>, R: Wait, C: Clock, G: Gate> Reading<'a, L, S, R, C, G> {
     /// Piece after piece, until the worker is to end.
     fn read_on<I: Incoming>(&mut self, feed: &mut ApduFeed, input: &mut I) -> WorkerEnd
-        ensures own { self.new.pass.actor ≡ self.old.pass.actor }
+        requires drained { (reading_of_ending feed.old).apdus ≡ [] }
+        ensures client { self.new.client ≡ self.old.client }
+        ensures reads { Reads L.setup self.old.client self.old.pass self.new.pass (I.given input.old) (I.given input.new)
+            feed.old feed.new (Some result) }
         ensures end { MayEnd result }
         ensures failed { I.has_failed input.new ≡ (is_read_fault (Some result) || I.has_failed input.old) }
     {
@@ -81,7 +87,11 @@ impl<'a, L: Course, S: Calls<L>, R: Wait, C: Clock, G: Gate> Reading<'a, L, S, R
         input: &mut I,
         buffer: &mut [u8],
     ) -> Option<WorkerEnd>
-        ensures own { self.new.pass.actor ≡ self.old.pass.actor }
+        requires drained { (reading_of_ending feed.old).apdus ≡ [] }
+        ensures client { self.new.client ≡ self.old.client }
+        ensures reads { Reads L.setup self.old.client self.old.pass self.new.pass (I.given input.old) (I.given input.new)
+            feed.old feed.new result }
+        ensures drained { IfNone result ((reading_of_ending feed.new).apdus ≡ []) }
         ensures end { IfSome result MayEnd }
         ensures failed { I.has_failed input.new ≡ (is_read_fault result || I.has_failed input.old) }
     {
@@ -101,7 +111,7 @@ impl<'a, L: Course, S: Calls<L>, R: Wait, C: Clock, G: Gate> Reading<'a, L, S, R
 
     /// Tells the core that the connection is lost, unless the core closed it.
     fn lose(&mut self, end: WorkerEnd)
-        ensures { self.new.pass.actor ≡ self.old.pass.actor }
+        ensures { Loses L.setup self.old.client self.old.pass self.new.pass end }
     {
         if let WorkerEnd::Closed(_) = end {
             return;
@@ -118,16 +128,16 @@ impl<'a, L: Course, S: Calls<L>, R: Wait, C: Clock, G: Gate> Reading<'a, L, S, R
 
     /// Takes a piece: a step of each APDU that is whole then. How the worker ends, if it does.
     fn take(&mut self, feed: &mut ApduFeed, piece: &[u8]) -> Option<WorkerEnd>
-        ensures own { self.new.pass.actor ≡ self.old.pass.actor }
+        ensures client { self.new.client ≡ self.old.client }
+        ensures takes { Takes L.setup self.old.client self.old.pass self.new.pass
+            (ending_after_piece feed.old piece.now) feed.new result }
+        ensures drained { IfNone result ((reading_of_ending feed.new).apdus ≡ []) }
         ensures end { IfSome result IsOfSteps }
     {
         if feed.feed(piece).is_err() {
             return Some(WorkerEnd::Memory);
         }
-        'apdus: for _ in 0..u32::MAX {
-            let Some(answer) = feed.next() else {
-                break;
-            };
+        'apdus: while let Some(answer) = feed.next() {
             if let Some(end) = self.take_answer(answer) {
                 return Some(end);
             }
@@ -137,7 +147,8 @@ impl<'a, L: Course, S: Calls<L>, R: Wait, C: Clock, G: Gate> Reading<'a, L, S, R
 
     /// Takes an APDU, or the fault that was met. How the worker ends, if it does.
     fn take_answer(&mut self, answer: Result<Apdu, ApciFault>) -> Option<WorkerEnd>
-        ensures own { self.new.pass.actor ≡ self.old.pass.actor }
+        ensures client { self.new.client ≡ self.old.client }
+        ensures takes { TakesAnswer L.setup self.old.client self.old.pass self.new.pass answer result }
         ensures end { IfSome result IsOfSteps }
     {
         match answer {
@@ -148,8 +159,18 @@ impl<'a, L: Course, S: Calls<L>, R: Wait, C: Clock, G: Gate> Reading<'a, L, S, R
 
     /// Makes the step of an APDU. How the worker ends, if it does.
     fn step(&mut self, apdu: Apdu) -> Option<WorkerEnd>
-        ensures own { self.new.pass.actor ≡ self.old.pass.actor }
+        ensures client { self.new.client ≡ self.old.client }
+        ensures takes { TakesAnswer L.setup self.old.client self.old.pass self.new.pass (Ok apdu) result }
         ensures end { IfSome result IsOfSteps }
+    {
+        let reply = self.ask(apdu);
+        end_by(&reply)
+    }
+
+    /// Makes the step of an APDU. Gives the reply.
+    fn ask(&mut self, apdu: Apdu) -> Result<Reply, StepFault>
+        ensures client { self.new.client ≡ self.old.client }
+        ensures asks { Asks L.setup self.old.client self.old.pass self.new.pass apdu result }
     {
         let actor = self.pass.actor();
         self.gate.at(actor, Place::Decoded);
@@ -160,11 +181,19 @@ impl<'a, L: Course, S: Calls<L>, R: Wait, C: Clock, G: Gate> Reading<'a, L, S, R
         };
         let reply = make_call(self.rt, self.shared, &mut self.pass, step, self.gate);
         self.gate.at(actor, Place::Stepped);
-        match reply {
-            Ok(Reply::Closed(why)) => Some(WorkerEnd::Closed(why)),
-            Ok(_) => None,
-            Err(StepFault::Memory) => Some(WorkerEnd::Memory),
-            Err(_) => Some(WorkerEnd::Stopping),
-        }
+        reply
+    }
+}
+
+/// How the worker ends by what the core answers, if it does.
+fn end_by(reply: &Result<Reply, StepFault>) -> Option<WorkerEnd>
+    ensures end_by { result ≡ end_by reply.now }
+    ensures end { IfSome result IsOfSteps }
+{
+    match reply {
+        Ok(Reply::Closed(why)) => Some(WorkerEnd::Closed(*why)),
+        Ok(_) => None,
+        Err(StepFault::Memory) => Some(WorkerEnd::Memory),
+        Err(_) => Some(WorkerEnd::Stopping),
     }
 }

@@ -4,6 +4,7 @@
 #![tactic(auto)]
 
 mod client_reading;
+pub mod examples;
 mod outstation_reading;
 
 pub use client_reading::client_reader;

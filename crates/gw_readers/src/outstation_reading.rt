@@ -1,7 +1,10 @@
 //! The reader of an outstation.
-ghost use Rattle.std.specs.Prelude.{◌≡◌, ◌≤◌, ◌||◌, [], ◌∷◌, length, IfSome, MatchOption, Some};
+ghost use Rattle.std.specs.Prelude.{◌≡◌, ◌≤◌, ◌||◌, [], ◌∷◌, ◌++◌, length, option_to_list, Err, IfSome, MatchOption, Some};
+ghost use Rattle.dnp_link.specs.FrameContent.{content};
+ghost use Rattle.dnp_receive.specs.Delivery.{response_at};
 ghost use Rattle.gw_ends.specs.Ends.{is_read_fault, is_write_fault, IsOfFrames, MayEndBetween};
 ghost use Rattle.gw_readers.specs.Confirms.{confirmation_in, Confirms, ReadsAll, ReadsOn};
+ghost use Rattle.gw_readers.specs.Heard.{Hears, HearsFrames, HearsOctets, HearsOf, HearsPiece, IsDrained};
 
 use dnp_app::{AppFault, Response, read_response};
 use dnp_link::{Frame, LinkEvent, LinkFeed};
@@ -95,6 +98,7 @@ pub fn outstation_reader<
     ensures own { result.0.actor ≡ pass.actor }
     // It ended by a failed write exactly where something that it sent wasn't taken whole.
     ensures confirmed { ReadsOn L.setup pass result.0 result.1 (is_write_fault (Some result.2)) }
+    ensures heard { Hears L.setup outstation receiver pass result.0 (I.given input.old) (I.given input.new) result.2 }
     ensures end { MayEndBetween result.2 }
     // It ended by a failed read exactly where one failed, unless one had before.
     ensures failed { I.has_failed input.new ≡ (is_read_fault (Some result.2) || I.has_failed input.old) }
@@ -139,8 +143,12 @@ impl<
         receiver: &mut Receiver,
         input: &mut I,
     ) -> WorkerEnd
+        requires drained { IsDrained feed.old }
+        ensures outstation { self.new.outstation ≡ self.old.outstation }
         ensures confirmed { ReadsAll L.setup self.old.pass self.new.pass self.old.front self.new.front
             (is_write_fault (Some result)) }
+        ensures heard { HearsOctets L.setup self.old.outstation self.old.pass self.new.pass receiver.old receiver.new
+            feed.old feed.new (I.given input.old) (I.given input.new) (Some result) }
         ensures end { MayEndBetween result }
         ensures failed { I.has_failed input.new ≡ (is_read_fault (Some result) || I.has_failed input.old) }
     {
@@ -162,8 +170,12 @@ impl<
         input: &mut I,
         buffer: &mut [u8],
     ) -> Option<WorkerEnd>
+        requires drained { IsDrained feed.old }
+        ensures outstation { self.new.outstation ≡ self.old.outstation }
         ensures confirmed { ReadsAll L.setup self.old.pass self.new.pass self.old.front self.new.front
             (is_write_fault result) }
+        ensures heard { HearsOctets L.setup self.old.outstation self.old.pass self.new.pass receiver.old receiver.new
+            feed.old feed.new (I.given input.old) (I.given input.new) result }
         ensures end { IfSome result MayEndBetween }
         ensures failed { I.has_failed input.new ≡ (is_read_fault result || I.has_failed input.old) }
     {
@@ -197,8 +209,11 @@ impl<
         receiver: &mut Receiver,
         piece: &[u8],
     ) -> Option<WorkerEnd>
+        ensures outstation { self.new.outstation ≡ self.old.outstation }
         ensures confirmed { ReadsAll L.setup self.old.pass self.new.pass self.old.front self.new.front
             (is_write_fault result) }
+        ensures heard { HearsPiece L.setup self.old.outstation self.old.pass self.new.pass receiver.old receiver.new
+            (feed.old ++ piece.now) feed.new result }
         ensures end { IfSome result IsOfFrames }
     {
         if feed.feed(piece).is_err() {
@@ -225,8 +240,11 @@ impl<
     /// ends, if it does.
     #[tactic(auto, using(crate::proofs::Confirming::reads_none))]
     fn take_frame(&mut self, receiver: &mut Receiver, frame: &Frame) -> Option<WorkerEnd>
+        ensures outstation { self.new.outstation ≡ self.old.outstation }
         ensures confirmed { ReadsAll L.setup self.old.pass self.new.pass self.old.front self.new.front
             (is_write_fault result) }
+        ensures heard { HearsFrames L.setup self.old.outstation self.old.pass self.new.pass receiver.old receiver.new
+            (content frame.now ∷ []) result }
         ensures end { IfSome result IsOfFrames }
     {
         let Ok(received) = receiver.take(frame) else {
@@ -241,6 +259,8 @@ impl<
     /// Sends the reply that the link owes, if it owes one. How the worker ends, if it does.
     #[tactic(auto, using(crate::proofs::Confirming::reads_none))]
     fn answer_link(&mut self, reply: &Option<[u8; 10]>) -> Option<WorkerEnd>
+        ensures outstation { self.new.outstation ≡ self.old.outstation }
+        ensures pass { self.new.pass ≡ self.old.pass }
         ensures confirmed { ReadsAll L.setup self.old.pass self.new.pass self.old.front self.new.front
             (is_write_fault result) }
         ensures end { IfSome result IsOfFrames }
@@ -261,8 +281,11 @@ impl<
     #[tactic(auto, using(crate::proofs::Confirming::reads_none))]
     fn take_fragment(&mut self, octets: Vec<u8>) -> Option<WorkerEnd>
         requires { length octets.items ≤ 2048 }
+        ensures outstation { self.new.outstation ≡ self.old.outstation }
         ensures confirmed { ReadsAll L.setup self.old.pass self.new.pass self.old.front self.new.front
             (is_write_fault result) }
+        ensures heard { HearsOf L.setup self.old.pass self.new.pass
+            (option_to_list (response_at self.old.outstation octets.items)) result }
         ensures end { IfSome result IsOfFrames }
     {
         let count = octets.len();
@@ -272,12 +295,14 @@ impl<
                 self.tell_passed_over(&response);
                 self.step(response)
             }
-            Err(AppFault::Memory) => Some(WorkerEnd::Memory),
-            Err(fault) => {
-                let octets = &self.recent[..count];
-                self.gate.refused(self.outstation, octets, &fault);
-                None
-            }
+            Err(fault) => match fault {
+                AppFault::Memory => Some(WorkerEnd::Memory),
+                _ => {
+                    let octets = &self.recent[..count];
+                    self.gate.refused(self.outstation, octets, &fault);
+                    None
+                }
+            },
         }
     }
 
@@ -291,8 +316,10 @@ impl<
 
     /// Makes the step of a response, and sends its confirmation where one is owed. How the worker ends, if it does.
     fn step(&mut self, response: Response) -> Option<WorkerEnd>
+        ensures outstation { self.new.outstation ≡ self.old.outstation }
         ensures confirmed { ReadsAll L.setup self.old.pass self.new.pass self.old.front self.new.front
             (is_write_fault result) }
+        ensures heard { HearsOf L.setup self.old.pass self.new.pass (response ∷ []) result }
         ensures end { IfSome result IsOfFrames }
     {
         let actor = self.pass.actor();
@@ -314,8 +341,10 @@ impl<
 
     /// Makes the step of a response, and sends its confirmation where one is owed. How the worker ends, if it does.
     fn ask(&mut self, response: Response) -> Option<WorkerEnd>
+        ensures outstation { self.new.outstation ≡ self.old.outstation }
         ensures confirmed { ReadsAll L.setup self.old.pass self.new.pass self.old.front self.new.front
             (is_write_fault result) }
+        ensures heard { HearsOf L.setup self.old.pass self.new.pass (response ∷ []) result }
         ensures end { IfSome result IsOfFrames }
     {
         let moment = self.clock.moment();
@@ -328,6 +357,7 @@ impl<
 
     /// Keeps the moment, where the core took a fragment.
     fn hear(&mut self, reply: &Result<Reply, StepFault>, moment: u64)
+        ensures outstation { self.new.outstation ≡ self.old.outstation }
         ensures pass { self.new.pass ≡ self.old.pass }
         ensures front { self.new.front ≡ self.old.front }
     {
@@ -354,7 +384,9 @@ impl<
 
     /// Sends the confirmation that a reply of the core owes, if it owes one. How the worker ends, if it does.
     fn confirm(&mut self, reply: &Result<Reply, StepFault>) -> Option<WorkerEnd>
+        ensures outstation { self.new.outstation ≡ self.old.outstation }
         ensures confirmed { Confirms reply.now self.old.front self.new.front (is_write_fault result) }
+        ensures spent { reply.now ≡ Err StepFault.Spent → result ≡ Some WorkerEnd.Stopping }
         ensures pass { self.new.pass ≡ self.old.pass }
         ensures end { IfSome result IsOfFrames }
     {

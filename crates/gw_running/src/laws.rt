@@ -1,8 +1,13 @@
 //! The promises of runs, of the shared core.
-ghost use Rattle.std.specs.Prelude.{◌≡◌, List, IfErr, IfOk};
+ghost use Rattle.std.specs.Prelude.{◌≡◌, ℕ, List, IfErr, IfOk};
 ghost use Rattle.gw_map.specs.Settings.{Setup};
 ghost use Rattle.gw_steps.specs.Runs.{Entry};
-ghost use Rattle.gw_shared.specs.Reached.{IsCourse};
+ghost use Rattle.one_log.specs.Follows.{Known};
+ghost use Rattle.gw_ends.specs.declared.sent.Sending.{Sending};
+ghost use Rattle.gw_shared.specs.Reached.{entries_of, IsCourse};
+ghost use Rattle.gw_shared.specs.Turn.{Pass as Seen};
+ghost use Rattle.gw_threads.specs.Sends.{SendsAllGiven};
+ghost use Rattle.gw_running.specs.Handed.{HandsOver};
 ghost use Rattle.gw_running.specs.Kept.{IsKeptRun, IsPromised, KeepsAll};
 
 use gw_hub::Hub;
@@ -21,6 +26,16 @@ pub fn core_keeps_promises<L: Course>(core: &Core<L, Hub>)
 #[tactic(auto, using(crate::proofs::Keeping::course_promised))]
 pub fn courses_keep_promises()
     ensures { (setup : Setup) (past : List Entry) → IsCourse setup past → KeepsAll setup past }
+{}
+
+/// Of each accepted execute one DIRECT_OPERATE at most is handed to the outstation's connection, or one SELECT at most and
+/// behind it one OPERATE at most; and no other control request is: what an outstation's writer has sent, together with all
+/// that its polls gave before, from the first state on.
+#[tactic(auto, using(crate::proofs::Handing::hands_over))]
+pub fn orders_go_out_once()
+    ensures { (setup : Setup) (outstation : ℕ) (mine after : Seen) (front : Known Sending)
+        → IsCourse setup (entries_of after.seen) → SendsAllGiven outstation mine after front
+        → HandsOver setup outstation mine after front }
 {}
 
 /// Ends the counting on a shared hub (`Shared::close`): all promises were kept at each place of the one history of the

@@ -2,6 +2,7 @@
 //! call that a worker makes on it.
 #![tactic(auto)]
 
+pub mod examples;
 mod laws;
 
-pub use laws::{close, core_keeps_promises, courses_keep_promises};
+pub use laws::{close, core_keeps_promises, courses_keep_promises, orders_go_out_once};

@@ -1,8 +1,11 @@
 //! What the server's threads do.
+ghost use Rattle.std.specs.Prelude.{◌≡◌, ◌+◌, ◌*◌, ◌≤◌, IfOk, vec_len};
+ghost use Rattle.gw_server.specs.Roles.{actors_of, roles_of, AreFirst};
 
 use gw_clock::Clock;
 use gw_connections::{
-    Calls, Course, Gate, Host, House, Pass, Passes, clock, look_out, serve_outstation, serve_place,
+    Calls, ClientPasses, Course, Gate, Host, House, OutstationPasses, Pass, Passes, PollPass,
+    PumpPass, clock, look_out, serve_outstation, serve_place,
 };
 use gw_model::Memory;
 use gw_peers::{Lobby, await_end};
@@ -20,9 +23,9 @@ pub enum Duty<L: Course> {
     /// Makes the ticks.
     Clock(Pass<L>),
     /// Keeps the connection to an outstation.
-    Outstation(u8, Passes<L>),
+    Outstation(OutstationPasses<L>),
     /// Serves the clients of a place.
-    Place(u8, Passes<L>),
+    Place(ClientPasses<L>),
     /// Waits for the end of standard input.
     Input,
 }
@@ -32,7 +35,7 @@ pub enum Duty<L: Course> {
 pub enum Returned<L: Course> {
     Nothing,
     One(Pass<L>),
-    Both(Passes<L>),
+    Both { reader: Pass<L>, writer: Pass<L> },
 }
 
 impl<L: Course + Send + Sync> Duty<L> {
@@ -53,15 +56,19 @@ impl<L: Course + Send + Sync> Duty<L> {
                 let (pass, _) = clock(desk.rt, house.shared, pass, desk.clock, house.gate);
                 return Returned::One(pass);
             }
-            Duty::Outstation(outstation, passes) => {
-                let passes = match site.plans.get(usize::from(outstation)) {
-                    Some(plan) => serve_outstation(house, outstation, plan, passes),
+            Duty::Outstation(passes) => {
+                let plan = site.plans.get(usize::from(passes.writer.outstation()));
+                let Passes { reader, writer } = match plan {
+                    Some(plan) => serve_outstation(house, plan, passes),
                     None => passes,
                 };
-                return Returned::Both(passes);
+                let (writer, _) = writer.into_parts();
+                return Returned::Both { reader, writer };
             }
-            Duty::Place(place, passes) => {
-                return Returned::Both(serve_place(house, lobby, place, passes));
+            Duty::Place(passes) => {
+                let Passes { reader, writer } = serve_place(house, lobby, passes);
+                let (writer, _) = writer.into_parts();
+                return Returned::Both { reader, writer };
             }
         }
         Returned::Nothing
@@ -76,8 +83,7 @@ impl<L: Course> Returned<L> {
             Returned::One(pass) => {
                 let _ = passes.push(pass);
             }
-            Returned::Both(both) => {
-                let Passes { reader, writer } = both;
+            Returned::Both { reader, writer } => {
                 let _ = passes.push(reader);
                 let _ = passes.push(writer);
             }
@@ -87,35 +93,67 @@ impl<L: Course> Returned<L> {
 
 /// Adds a duty for each thread, in the order in which they end: that of standard input, where its end is awaited,
 /// those of the places and of the outstations, the last ones first, the clock's, that of the status, where it is
-/// served, the lookout's and the journal's. `passes` are those of the outstations' readers and writers, of the
-/// clients' readers and writers, and the clock's; they are used up.
+/// served, the lookout's and the journal's. `passes` are those of all actors; they are used up.
 pub fn add_duties<L: Course>(
     duties: &mut Vec<Duty<L>>,
     passes: &mut Vec<Pass<L>>,
+    outstations: u8,
     site: &Site<'_>,
-) -> Result<(), Memory> {
-    let Some(clock) = passes.pop() else {
-        return Err(Memory);
-    };
-    add_peers(duties, passes, site)?;
+) -> Result<(), Memory>
+    requires passes { AreFirst passes.old.items }
+    requires all { vec_len passes.old ≡ actors_of outstations }
+    requires roles { L.roles ≡ roles_of outstations }
+{
+    let clock = last(passes)?;
+    if site.door.until_eof.is_some() {
+        add(duties, Duty::Input)?;
+    }
+    add_places(duties, passes, outstations)?;
+    add_outstations(duties, passes, outstations)?;
     add(duties, Duty::Clock(clock))?;
     add_others(duties, site)
 }
 
-/// Adds the duties of standard input, of the places and of the outstations.
-fn add_peers<L: Course>(
+/// Adds the duties of the places for clients.
+fn add_places<L: Course>(
     duties: &mut Vec<Duty<L>>,
     passes: &mut Vec<Pass<L>>,
-    site: &Site<'_>,
-) -> Result<(), Memory> {
-    if site.door.until_eof.is_some() {
-        add(duties, Duty::Input)?;
+    outstations: u8,
+) -> Result<(), Memory>
+    requires passes { AreFirst passes.old.items }
+    requires all { vec_len passes.old ≡ 2 * (outstations + 8) }
+    requires roles { L.roles ≡ roles_of outstations }
+    ensures passes { IfOk result (λ done. AreFirst passes.new.items) }
+    ensures rest { IfOk result (λ done. vec_len passes.new ≡ 2 * outstations) }
+{
+    let mut place = CLIENTS;
+    'places: while place > 0 {
+        place -= 1;
+        let writer = last(passes)?;
+        let reader = last(passes)?;
+        let writer = PumpPass::new(writer, place);
+        add(duties, Duty::Place(Passes { reader, writer }))?;
     }
-    for place in (0..CLIENTS).rev() {
-        add(duties, Duty::Place(place, last_two(passes)?))?;
-    }
-    for outstation in (0..site.outstations()).rev() {
-        add(duties, Duty::Outstation(outstation, last_two(passes)?))?;
+    Ok(())
+}
+
+/// Adds the duties of the outstations.
+fn add_outstations<L: Course>(
+    duties: &mut Vec<Duty<L>>,
+    passes: &mut Vec<Pass<L>>,
+    outstations: u8,
+) -> Result<(), Memory>
+    requires passes { AreFirst passes.old.items }
+    requires all { vec_len passes.old ≡ 2 * outstations }
+    requires roles { L.roles ≡ roles_of outstations }
+{
+    let mut outstation = outstations;
+    'outstations: while outstation > 0 {
+        outstation -= 1;
+        let writer = last(passes)?;
+        let reader = last(passes)?;
+        let writer = PollPass::new(writer, outstation);
+        add(duties, Duty::Outstation(Passes { reader, writer }))?;
     }
     Ok(())
 }
@@ -135,10 +173,15 @@ fn add<L: Course>(duties: &mut Vec<Duty<L>>, duty: Duty<L>) -> Result<(), Memory
     Ok(())
 }
 
-/// The last two actors' passes, of which the writer's stands behind the reader's.
-fn last_two<L: Course>(passes: &mut Vec<Pass<L>>) -> Result<Passes<L>, Memory> {
-    match (passes.pop(), passes.pop()) {
-        (Some(writer), Some(reader)) => Ok(Passes { reader, writer }),
-        _ => Err(Memory),
+/// The last pass, which is that of the last actor.
+fn last<L: Course>(passes: &mut Vec<Pass<L>>) -> Result<Pass<L>, Memory>
+    requires { AreFirst passes.old.items }
+    ensures passes { AreFirst passes.new.items }
+    ensures count { IfOk result (λ pass. vec_len passes.old ≡ vec_len passes.new + 1) }
+    ensures actor { IfOk result (λ pass. pass.actor ≡ vec_len passes.new) }
+{
+    match passes.pop() {
+        Some(pass) => Ok(pass),
+        None => Err(Memory),
     }
 }

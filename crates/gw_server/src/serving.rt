@@ -1,8 +1,9 @@
 //! The whole server.
-ghost use Rattle.std.specs.Prelude.{◌≡◌, ◌<◌, IfOk};
+ghost use Rattle.std.specs.Prelude.{◌≡◌, ◌<◌, IfOk, vec_len};
 ghost use Rattle.std.specs.Thread.{IsSend, IsSync};
 ghost use Rattle.gw_running.specs.Kept.{IsKeptRun};
 ghost use Rattle.gw_shared.specs.Reached.{IsFirst};
+ghost use Rattle.gw_server.specs.Roles.{actors_of, roles_of, AreFirst};
 
 use crate::duty::{Duty, Returned, add_duties};
 use crate::options::Options;
@@ -125,6 +126,7 @@ fn plans_and_board(alloc: Global, settings: &Settings) -> Result<(Vec<Plan>, Boa
 #[derive(Drop)]
 struct Opening {
     hub: Hub,
+    outstations: u8,
     actors: usize,
     capacity: usize,
 }
@@ -132,7 +134,8 @@ struct Opening {
 impl Opening {
     /// That of settings, with so many outstations.
     fn of(alloc: Global, settings: Settings, outstations: u8) -> Result<Opening, Memory>
-        ensures some { IfOk result (λ opening. (0 < opening.actors) × (0 < opening.capacity)) }
+        ensures some { IfOk result (λ opening. 0 < opening.capacity) }
+        ensures actors { IfOk result (λ opening. opening.actors ≡ actors_of opening.outstations) }
         ensures first { IfOk result (λ opening. IsFirst settings opening.hub) }
     {
         let capacity = (settings.station().recorder as usize).max(1);
@@ -140,6 +143,7 @@ impl Opening {
         let hub = Hub::new(alloc, settings)?;
         Ok(Opening {
             hub,
+            outstations,
             actors,
             capacity,
         })
@@ -158,12 +162,15 @@ fn serve_with<L: Course + Send + Sync, R: Host, C: Clock + Sync, G: Gate + Sync>
     requires book { history.seen.book ≡ L.book }
     requires name { blank.name ≡ L.name }
     requires parts { (blank.parts ≡ L.parts) × (blank.parts ≡ opening.actors) }
-    requires some { (0 < opening.actors) × (0 < opening.capacity) }
+    requires actors { opening.actors ≡ actors_of opening.outstations }
+    requires some { 0 < opening.capacity }
     requires first { IsFirst L.setup opening.hub }
+    requires roles { L.roles ≡ roles_of opening.outstations }
     ensures { IfOk result (λ closed. IsKeptRun L.setup closed.total) }
 {
     let Opening {
         hub,
+        outstations,
         actors,
         capacity,
     } = opening;
@@ -176,20 +183,24 @@ fn serve_with<L: Course + Send + Sync, R: Host, C: Clock + Sync, G: Gate + Sync>
         shared: &shared,
         gate: &watched,
     };
-    serve_in(&house, site, passes)
+    serve_in(&house, site, outstations, passes)
 }
 
 /// Serves with these passes, which come back and are counted together.
 fn serve_in<L: Course + Send + Sync, R: Host, C: Clock + Sync, G: Gate + Sync>(
     house: &House<'_, Shared<L, Hub>, R, C, G>,
     site: &Site<'_>,
+    outstations: u8,
     passes: Vec<Pass<L>>,
 ) -> Result<Closed, Memory>
+    requires passes { AreFirst passes.items }
+    requires all { vec_len passes ≡ actors_of outstations }
+    requires roles { L.roles ≡ roles_of outstations }
     ensures { IfOk result (λ closed. IsKeptRun L.setup closed.total) }
 {
     let mut passes = passes;
     let mut duties = Vec::new(house.desk.alloc);
-    add_duties(&mut duties, &mut passes, site)?;
+    add_duties(&mut duties, &mut passes, outstations, site)?;
     perform_all(house, site, &mut duties, &mut passes)?;
     match close(house.shared, house.desk.rt, passes) {
         Ok(closed) => Ok(closed),

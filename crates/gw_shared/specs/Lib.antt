@@ -3,3 +3,5 @@ pub mod Totals
 pub mod Pumping
 pub mod Made
 pub mod Reached
+pub mod Roles
+pub mod Example

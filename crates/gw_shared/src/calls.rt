@@ -1,6 +1,8 @@
 //! What passes make calls on. Workers know the core behind its lock by this trait.
 ghost use Rattle.std.specs.Prelude.{◌≡◌};
+ghost use Rattle.gw_steps.specs.declared.step.Step.TheVariants as steps;
 ghost use Rattle.gw_shared.specs.Pumping.{IsPumpedRun, MayGoOn};
+ghost use Rattle.gw_shared.specs.Roles.{MayMake};
 ghost use Rattle.gw_shared.specs.Turn.{Answers};
 
 use crate::course::Course;
@@ -21,6 +23,7 @@ pub trait Calls<L: Course> {
         pass: &mut Pass<L>,
         step: Step,
     ) -> (u64, Result<Reply, StepFault>)
+        requires may { MayMake L.roles pass.old.actor step }
         ensures { Answers L.setup pass.old pass.new step result };
 
     /// Pumps for a client under one hold of the lock (`Core::pump`), which serves nobody else.
@@ -32,6 +35,7 @@ pub trait Calls<L: Course> {
         moment: u64,
         batch: &mut Batch,
     ) -> Pumped
+        requires may { MayMake L.roles pass.old.actor (steps.Pump client moment) }
         ensures run { IsPumpedRun L.setup client pass.old pass.new batch.old batch.new result }
         ensures more { MayGoOn pass.old pass.new batch.new result }
         ensures own { pass.new.actor ≡ pass.old.actor };

@@ -20,18 +20,24 @@ impl Model for Made {
     ghost view = { λ m. record { step = m.step; reply = m.reply } };
 }
 
-/// Which core it is: the name of its ledger and of its history, and the settings that its hub runs with. Each call of a
-/// program picks it.
+/// Which core it is: the name of its ledger and of its history, the settings that its hub runs with, and who makes which
+/// calls. Each call of a program picks it.
 pub trait Course: Ledger + Naming {
     ghost use Rattle.gw_map.specs.Settings.{Setup};
+    ghost use Rattle.gw_shared.specs.Roles.{Roles};
 
     ghost setup: { Setup };
+
+    ghost roles: { Roles };
 }
 
 impl Course for Brand {
     ghost use Rattle.gw_steps.specs.Example.{setup as by_example};
+    ghost use Rattle.gw_shared.specs.Roles.{anybody};
 
     ghost setup = { by_example };
+
+    ghost roles = { anybody };
 }
 
 /// A history in which no call was made yet; none where somebody added to it before it was opened, which nobody can.

@@ -6,6 +6,7 @@ mod bells;
 mod calls;
 mod close;
 mod course;
+pub mod examples;
 mod locked;
 mod pass;
 mod pumped;

@@ -7,6 +7,7 @@ ghost use Rattle.gw_record.specs.Recording.{is_tape_full, noted, tape_on};
 ghost use Rattle.gw_shared.specs.Made.{IsMadeInto};
 ghost use Rattle.one_log.specs.Follows.{Follows};
 ghost use Rattle.gw_shared.specs.Reached.{entry, IsFirst, IsReached};
+ghost use Rattle.gw_shared.specs.Roles.{MayMake};
 ghost use Rattle.gw_shared.specs.Pumping.{GoesOn, IsPumpedNext, IsPumpedRun, MayGoOn};
 ghost use Rattle.gw_shared.specs.Turn.{last_call, pass_behind, Answers, IsMadeReady, Steps};
 
@@ -46,6 +47,7 @@ impl<L: Course, M: Machine> Model for Core<L, M> {
     ghost use Rattle.std.specs.Prelude.{◌≡◌, length, sum};
     ghost use Rattle.gw_record.specs.Recording.{Replays};
     ghost use Rattle.gw_shared.specs.Reached.{IsReached};
+    ghost use Rattle.gw_shared.specs.Roles.{KeepsRoles};
     ghost use Rattle.gw_shared.specs.Turn.{Core as Seen};
 
     ghost Value = { Seen };
@@ -53,10 +55,10 @@ impl<L: Course, M: Machine> Model for Core<L, M> {
     ghost view = { λ c. record { hub = M.seen c.machine; recording = c.recorder; past = c.head.log; made = c.made } };
 
     // The machine is what the recorder's tape replays to, and came from a run of as many steps as calls were made; all
-    // calls are counted in the book, and by actor.
+    // calls are counted in the book, and by actor, and each was made by an actor that may.
     ghost invariant = { λ c. (c.made ≡ c.book.total) × (length c.recorder.counts ≡ L.parts)
         × (sum c.recorder.counts ≡ c.made) × Replays c.recorder.tape (M.seen c.machine)
-        × IsReached L.setup (M.seen c.machine) c.head.log c.made };
+        × IsReached L.setup (M.seen c.machine) c.head.log c.made × KeepsRoles L.roles c.head.log };
 }
 
 /// The recorder of a machine on which no call was made, and what becomes of orders.
@@ -111,6 +113,7 @@ impl<L: Course, M: Machine> Core<L, M> {
     /// Makes a call: the step is made on the machine and noted with its reply. Gives the call's number, counted over
     /// all passes from 1. Where no further call can be counted nothing is made, and the answer is `Spent`.
     pub fn step(&mut self, pass: &mut Pass<L>, step: Step) -> (u64, Result<Reply, StepFault>)
+        requires may { MayMake L.roles pass.old.actor step }
         ensures step { Steps L.setup self.old self.new pass.old pass.new step result }
         ensures counted { self.old.made ≤ last_call }
     {
@@ -142,6 +145,7 @@ impl<L: Course, M: Machine> Core<L, M> {
         pass: &mut Pass<L>,
         step: Step,
     ) -> ((u64, Result<Reply, StepFault>), Roused)
+        requires may { MayMake L.roles pass.old.actor step }
         ensures step { Steps L.setup self.old self.new pass.old pass.new step result.0 }
         ensures answers { Answers L.setup pass.old pass.new step result.0 }
     {
@@ -181,6 +185,7 @@ impl<L: Course, M: Machine> Core<L, M> {
     /// Pumps for a client at a moment, one call after another, and puts the APDUs into a batch: until an answer is
     /// none, or there is no room for one more.
     pub fn pump(&mut self, pass: &mut Pass<L>, client: u8, moment: u64, batch: &mut Batch) -> Pumped
+        requires may { MayMake L.roles pass.old.actor (steps.Pump client moment) }
         ensures made { IsMadeInto L.setup (steps.Pump client moment) self.old self.new pass.old pass.new batch.old batch.new }
         ensures run { IsPumpedRun L.setup client pass.old pass.new batch.old batch.new result }
         ensures more { MayGoOn pass.old pass.new batch.new result }
@@ -203,6 +208,7 @@ impl<L: Course, M: Machine> Core<L, M> {
         moment: u64,
         batch: &mut Batch,
     ) -> Option<Pumped>
+        requires may { MayMake L.roles pass.old.actor (steps.Pump client moment) }
         ensures made { IsMadeInto L.setup (steps.Pump client moment) self.old self.new pass.old pass.new batch.old batch.new }
         ensures run { IsPumpedNext L.setup client pass.old pass.new batch.old batch.new result }
         ensures more { GoesOn pass.old pass.new batch.new result }
@@ -242,6 +248,7 @@ impl<L: Course, M: Machine> Core<L, M> {
     fn make(&mut self, pass: &mut Pass<L>, step: Step) -> (u64, Result<Reply, StepFault>)
         requires counts { self.old.made < last_call }
         requires room { is_tape_full self.old.recording.tape ≡ false }
+        requires may { MayMake L.roles pass.old.actor step }
         ensures step { Allowed self.old.hub.setup self.old.hub.state step result.1 self.new.hub.state }
         ensures sound { IsSoundState self.old.hub.setup self.old.hub.state }
         ensures setup { self.new.hub.setup ≡ self.old.hub.setup }

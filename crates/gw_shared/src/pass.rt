@@ -1,5 +1,7 @@
 //! The right to make calls.
 ghost use Rattle.std.specs.Prelude.{◌≡◌};
+ghost use Rattle.gw_shared.specs.Reached.{entries_of, IsCourse};
+ghost use Rattle.gw_shared.specs.Roles.{KeepsRoles};
 
 use crate::course::{Course, Made};
 use gw_record::Orders;
@@ -20,13 +22,16 @@ pub struct Pass<L: Course> {
 
 impl<L: Course> Model for Pass<L> {
     ghost use Rattle.std.specs.Prelude.{◌≡◌, ◌<◌};
+    ghost use Rattle.gw_shared.specs.Reached.{entries_of, IsCourse};
+    ghost use Rattle.gw_shared.specs.Roles.{KeepsRoles};
     ghost use Rattle.gw_shared.specs.Turn.{Pass as Seen};
 
     ghost Value = { Seen };
 
     ghost view = { λ p. record { actor = p.actor; made = p.share.amount; seen = p.front.log } };
 
-    ghost invariant = { λ p. (p.share.parts ≡ 1) × (p.actor < L.parts) × (p.front.lane ≡ p.actor) };
+    ghost invariant = { λ p. (p.share.parts ≡ 1) × (p.actor < L.parts) × (p.front.lane ≡ p.actor)
+        × KeepsRoles L.roles p.front.log × IsCourse L.setup (entries_of p.front.log) };
 }
 
 impl<L: Course> Pass<L> {
@@ -35,6 +40,15 @@ impl<L: Course> Pass<L> {
         ensures { result ≡ self.now.actor }
     {
         self.actor
+    }
+
+    /// Tells a proof what is known of the calls that it has seen: they are a run from the first state, and actors that may
+    /// make them made them. It does nothing.
+    pub fn attest(&self)
+        ensures course { IsCourse L.setup (entries_of self.now.seen) }
+        ensures roles { KeepsRoles L.roles self.now.seen }
+    {
+        let _actor = self.actor;
     }
 
     /// What its last call did to orders, besides what the reply told.

@@ -1,7 +1,7 @@
 //! The core behind its lock.
 ghost use Rattle.std.specs.Prelude.{◌≡◌, ◌<◌, [], IfOk, map};
 ghost use Rattle.std.specs.List.{range_with_len};
-ghost use Rattle.gw_shared.specs.Reached.{CourseOf, IsFirst};
+ghost use Rattle.gw_shared.specs.Reached.{CourseOf, IsCourse, IsFirst};
 ghost use Rattle.gw_shared.specs.Turn.{unused};
 
 use crate::bells::Bells;
@@ -52,6 +52,7 @@ fn passes<L: Course>(
     requires parts { (share.parts ≡ L.parts) × (share.parts ≡ actors) }
     requires amount { share.amount ≡ 0 }
     requires some { 0 < actors }
+    requires course { IsCourse L.setup [] }
     ensures passes { IfOk result (λ passes. passes.items
         ≡ map unused (range_with_len 0 actors)) }
     ensures log { head.new.log ≡ [] }
@@ -86,6 +87,7 @@ fn passes_and_bells<L: Course>(
     requires parts { (share.parts ≡ L.parts) × (share.parts ≡ actors) }
     requires amount { share.amount ≡ 0 }
     requires some { 0 < actors }
+    requires course { IsCourse L.setup [] }
     ensures passes { IfOk result (λ made. made.0.items ≡ map unused (range_with_len 0 actors)) }
     ensures log { head.new.log ≡ [] }
 {

@@ -13,62 +13,33 @@ use Rattle.gw_shared.specs.Turn.{Pass}
 use Rattle.gw_shared.specs.Pumping.{ArePumped, IsGivenTo, IsPumpedRun, PumpsAll, PumpsOnce}
 use Rattle.gw_shared.specs.declared.pumped.Pumped.{Pumped}
 use Rattle.gw_shared.specs.declared.pumped.Pumped.TheVariants as pumps
-use Rattle.gw_shared.proofs.Pumping.{given_pumped, same_actor}
+use Rattle.gw_shared.proofs.Pumping.{given_pumped}
 use Rattle.gw_ends.proofs.Joined.{joined-append}
 use Rattle.gw_ends.specs.declared.putting.Gathered.{Gathered}
 use Rattle.std.proofs.Math.Seq.{take-append-add}
 use Rattle.std.proofs.lemmas.List.{append-nil}
 use Rattle.std.proofs.Common.{append_assoc}
-use Rattle.gw_threads.specs.Written.{AreCalls, Asked, Asking, Call, GivesTo, IsFor, IsPutOut, Settles, TellsLoss, Writes, WritesIfEnded, WritesPut, Wrote, WroteFront, apdu_given, apdus_given, gathered_by}
+use Rattle.gw_threads.specs.Calls.{Call, given_by}
+use Rattle.gw_threads.specs.Written.{Asked, Asking, GivesTo, IsFor, IsPutOut, Settles, TellsLoss, Writes, WritesIfEnded, WritesPut, Wrote, WroteFront, apdu_given, gathered_by}
 use Rattle.gw_ends.specs.declared.worker_end.WorkerEnd.{WorkerEnd}
 use Rattle.gw_ends.specs.declared.worker_end.WorkerEnd.TheVariants as ends
+use Rattle.gw_threads.proofs.Calling.{calls_own, calls_then, given_then, own_then}
 use Rattle.gw_threads.proofs.Carried.{pumped_carries}
 use Rattle.gw_ends.proofs.Runs.{appends-more}
 use Rattle.gw_ends.specs.declared.putting.Put.{Put}
 use Rattle.gw_ends.specs.declared.putting.Put.TheVariants.{Ended, Unwritten, More}
-
--- ---- calls, one after another
-
-pub calls_then : (setup : Setup) (mine mid after : Pass) (a b : List Call) → AreCalls setup mine a mid
-    → AreCalls setup mid b after → AreCalls setup mine (a ++ b) after
-calls_then setup mine mid after [] b first more = subst (λ (p : Pass). AreCalls setup p b after) (sym first) more
-calls_then setup mine mid after (c ∷ a) b first more =
-    (first.0, (first.1.0, calls_then setup first.0 mid after a b first.1.1 more))
-
--- whoever makes them stays the actor that it is
-pub calls_own : (setup : Setup) (mine after : Pass) (calls : List Call) → AreCalls setup mine calls after
-    → after.actor ≡ mine.actor
-calls_own setup mine after [] made = ap (λ (p : Pass). p.actor) (sym made)
-calls_own setup mine after (c ∷ calls) made =
-    calls_own setup made.0 after calls made.1.1 ∙ same_actor setup mine made.0 c.step (c.number, c.reply) made.1.0
-
-own_then : (client : ℕ) (a b : List Call) → AllByRecursion (λ (c : Call). IsFor client c.step) a
-    → AllByRecursion (λ (c : Call). IsFor client c.step) b → AllByRecursion (λ (c : Call). IsFor client c.step) (a ++ b)
-own_then client [] b first more = more
-own_then client (c ∷ a) b first more = (first.0, own_then client a b first.1 more)
-
-given_then : (a b : List Call) → apdus_given (a ++ b) ≡ apdus_given a ++ apdus_given b
-given_then [] b = refl
-given_then (c ∷ a) b =
-    ap (λ (rest : List ApduBuf). apdu_given c.step c.reply ++ rest) (given_then a b)
-    ∙ sym (append_assoc (apdu_given c.step c.reply) (apdus_given a) (apdus_given b))
-
-each_then : (client : ℕ) (a b : List ApduBuf) → AllByRecursion (IsPutOut client) a
-    → AllByRecursion (IsPutOut client) b → AllByRecursion (IsPutOut client) (a ++ b)
-each_then client [] b first more = more
-each_then client (x ∷ a) b first more = (first.0, each_then client a b first.1 more)
 
 pub asked_then : (setup : Setup) (client : ℕ) (mine mid after : Pass) (a b : List ApduBuf)
     → Asked setup client mine mid a → Asked setup client mid after b → Asked setup client mine after (a ++ b)
 asked_then setup client mine mid after a b first more = record {
   calls = first.calls ++ more.calls;
   made = calls_then setup mine mid after first.calls more.calls first.made more.made;
-  own = own_then client first.calls more.calls first.own more.own;
+  own = own_then (λ (c : Call). IsFor client c.step) first.calls more.calls first.own more.own;
   given =
-      given_then first.calls more.calls
-      ∙ (ap (λ (l : List ApduBuf). l ++ apdus_given more.calls) first.given
+      given_then apdu_given first.calls more.calls
+      ∙ (ap (λ (l : List ApduBuf). l ++ given_by apdu_given more.calls) first.given
       ∙ ap (λ (l : List ApduBuf). a ++ l) more.given);
-  each = each_then client a b first.each more.each;
+  each = own_then (IsPutOut client) a b first.each more.each;
 }
 
 asked_none : (setup : Setup) (client : ℕ) (mine after : Pass) → mine ≡ after → Asked setup client mine after []
@@ -169,7 +140,7 @@ client_put setup old new x y Unwritten put = (asked_if_ended setup old put.mid n
 client_put setup old new x y More put = (asked_all setup old new put.apdus put.given).0
 
 pub wrote-put : (setup : Setup) (old new : Asking) (x y : Option (List ℕ)) (put : Put)
-    → IsPut (GivesTo setup) old new x y put → WritesPut setup old.client old.pass new.pass x y put
+    → IsPut (GivesTo setup) old new x y put → WritesPut (Asked setup old.client old.pass new.pass) x y put
 wrote-put setup old new x y (Ended last) put = record {
   apdus = put.1.0.apdus;
   asked = (asked_on setup old put.0 new put.1.0.apdus last put.1.0.given put.1.1 put.1.2).1;
@@ -187,7 +158,7 @@ wrote-put setup old new x y More put =
 -- ---- what was handed over, one run after the other
 
 pub wrote-then : (setup : Setup) (client : ℕ) (mine mid after : Pass) (x y z : Option (List ℕ))
-    → Wrote setup client mine mid x y → Wrote setup client mid after y z → Wrote setup client mine after x z
+    → Wrote (Asked setup client mine mid) x y → Wrote (Asked setup client mid after) y z → Wrote (Asked setup client mine after) x z
 wrote-then setup client mine mid after x y z first more = record {
   apdus = first.apdus ++ more.apdus;
   asked = asked_then setup client mine mid after first.apdus more.apdus first.asked more.asked;
@@ -197,8 +168,8 @@ wrote-then setup client mine mid after x y z first more = record {
 }
 
 front-then : (setup : Setup) (client : ℕ) (mine mid after : Pass) (x y z : Option (List ℕ))
-    → Wrote setup client mine mid x y → WroteFront setup client mid after y z
-    → WroteFront setup client mine after x z
+    → Wrote (Asked setup client mine mid) x y → WroteFront (Asked setup client mid after) y z
+    → WroteFront (Asked setup client mine after) x z
 front-then setup client mine mid after x y z first more = record {
   apdus = first.apdus ++ more.apdus;
   asked = asked_then setup client mine mid after first.apdus more.apdus first.asked more.asked;
@@ -212,7 +183,7 @@ front-then setup client mine mid after x y z first more = record {
 
 -- and how it ended
 pub writes-then : (setup : Setup) (client : ℕ) (mine mid after : Pass) (x y z : Option (List ℕ)) (end : WorkerEnd)
-    → Wrote setup client mine mid x y → Writes setup client mid after y z end → Writes setup client mine after x z end
+    → Wrote (Asked setup client mine mid) x y → Writes (Asked setup client mid after) y z end → Writes (Asked setup client mine after) x z end
 writes-then setup client mine mid after x y z (ends.Closed why) first more =
     wrote-then setup client mine mid after x y z first more
 writes-then setup client mine mid after x y z ends.EndOfInput first more =
@@ -231,7 +202,7 @@ writes-then setup client mine mid after x y z ends.Stopping first more =
     wrote-then setup client mine mid after x y z first more
 
 -- nothing yet
-pub wrote_none : (setup : Setup) (client : ℕ) (mine : Pass) (x : Option (List ℕ)) → Wrote setup client mine mine x x
+pub wrote_none : (setup : Setup) (client : ℕ) (mine : Pass) (x : Option (List ℕ)) → Wrote (Asked setup client mine mine) x x
 wrote_none setup client mine x =
     record { apdus = []; asked = asked_none setup client mine mine refl; taken = nothing x }
   where
@@ -254,7 +225,7 @@ asked_loss setup client mine mid after apdus first loss =
     }))
 
 wrote_loss : (setup : Setup) (client : ℕ) (mine mid after : Pass) (x y : Option (List ℕ))
-    → Wrote setup client mine mid x y → TellsLoss setup client mid after → Wrote setup client mine after x y
+    → Wrote (Asked setup client mine mid) x y → TellsLoss setup client mid after → Wrote (Asked setup client mine after) x y
 wrote_loss setup client mine mid after x y wrote loss = record {
   apdus = wrote.apdus;
   asked = asked_loss setup client mine mid after wrote.apdus wrote.asked loss;
@@ -262,13 +233,13 @@ wrote_loss setup client mine mid after x y wrote loss = record {
 }
 
 wrote_same : (setup : Setup) (client : ℕ) (mine mid after : Pass) (x y : Option (List ℕ))
-    → Wrote setup client mine mid x y → after ≡ mid → Wrote setup client mine after x y
+    → Wrote (Asked setup client mine mid) x y → after ≡ mid → Wrote (Asked setup client mine after) x y
 wrote_same setup client mine mid after x y wrote same =
-    subst (λ (p : Pass). Wrote setup client mine p x y) (sym same) wrote
+    subst (λ (p : Pass). Wrote (Asked setup client mine p) x y) (sym same) wrote
 
 pub settled : (setup : Setup) (client : ℕ) (mine mid after : Pass) (x y : Option (List ℕ)) (put : Put)
-    → WritesPut setup client mine mid x y put → Settles setup client mid after put
-    → WritesIfEnded setup client mine after x y (writing_end put)
+    → WritesPut (Asked setup client mine mid) x y put → Settles setup client mid after put
+    → WritesIfEnded (Asked setup client mine after) x y (writing_end put)
 settled setup client mine mid after x y (Ended None) wrote settles =
     wrote_same setup client mine mid after x y wrote settles
 settled setup client mine mid after x y (Ended (Some (Ok reply))) wrote settles =
@@ -286,7 +257,7 @@ settled setup client mine mid after x y More wrote settles =
 
 -- the actor that the worker is
 pub writes_own : (setup : Setup) (client : ℕ) (mine after : Pass) (x y : Option (List ℕ)) (end : WorkerEnd)
-    → Writes setup client mine after x y end → after.actor ≡ mine.actor
+    → Writes (Asked setup client mine after) x y end → after.actor ≡ mine.actor
 writes_own setup client mine after x y (ends.Closed why) w = calls_own setup mine after w.asked.calls w.asked.made
 writes_own setup client mine after x y ends.EndOfInput w = calls_own setup mine after w.asked.calls w.asked.made
 writes_own setup client mine after x y ends.ReadFault w = calls_own setup mine after w.asked.calls w.asked.made

@@ -1,4 +1,6 @@
+pub mod Calling
 pub mod Gathering
 pub mod Carried
 pub mod Requesting
 pub mod Standing
+pub mod Alone

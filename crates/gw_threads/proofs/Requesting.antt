@@ -14,26 +14,14 @@ use Rattle.gw_ends.specs.declared.sent.Sent.TheVariants as sents
 use Rattle.gw_ends.specs.declared.sent.Sending.{Sending}
 use Rattle.gw_ends.specs.Sent.{IsSent, is_cut_off}
 use Rattle.one_log.specs.Follows.{Known}
-use Rattle.gw_threads.specs.Written.{Call}
-use Rattle.gw_threads.specs.Sends.{AreSent, IsTowards, PollsOnce, SentAll, TellsOutstationLoss, is_request, request_given, requests_given}
-use Rattle.gw_threads.proofs.Gathering.{calls_own, calls_then}
+use Rattle.gw_threads.specs.Calls.{Call, given_by}
+use Rattle.gw_threads.specs.Sends.{AreSent, IsTowards, PollsOnce, SentAll, TellsOutstationLoss, is_request, request_given}
+use Rattle.gw_threads.proofs.Calling.{calls_own, calls_then, given_then, own_then}
 
 pub sends_then : (old mid new : Known Sending) (a b : List Sending) → AreSent old a mid → AreSent mid b new
     → AreSent old (a ++ b) new
 sends_then old mid new [] b first more = subst (λ (l : Known Sending). AreSent l b new) (sym first) more
 sends_then old mid new (s ∷ a) b first more = (first.0, (first.1.0, sends_then first.0 mid new a b first.1.1 more))
-
-own_then : (outstation : ℕ) (a b : List Call) → AllByRecursion (λ (c : Call). IsTowards outstation c.step) a
-    → AllByRecursion (λ (c : Call). IsTowards outstation c.step) b
-    → AllByRecursion (λ (c : Call). IsTowards outstation c.step) (a ++ b)
-own_then outstation [] b first more = more
-own_then outstation (c ∷ a) b first more = (first.0, own_then outstation a b first.1 more)
-
-given_then : (a b : List Call) → requests_given (a ++ b) ≡ requests_given a ++ requests_given b
-given_then [] b = refl
-given_then (c ∷ a) b =
-    ap (λ (rest : List Request). request_given c.step c.reply ++ rest) (given_then a b)
-    ∙ sym (append_assoc (request_given c.step c.reply) (requests_given a) (requests_given b))
 
 or_assoc : (a b c : Bool) → (a || (b || c)) ≡ ((a || b) || c)
 or_assoc true b c = refl
@@ -60,15 +48,15 @@ pub sent_then : (setup : Setup) (outstation : ℕ) (mine mid after : Pass) (x y 
 sent_then setup outstation mine mid after x y z a b first more = record {
   calls = first.calls ++ more.calls;
   made = calls_then setup mine mid after first.calls more.calls first.made more.made;
-  own = own_then outstation first.calls more.calls first.own more.own;
+  own = own_then (λ (c : Call). IsTowards outstation c.step) first.calls more.calls first.own more.own;
   sends = first.sends ++ more.sends;
   sent = sends_then x y z first.sends more.sends first.sent more.sent;
   same =
       map-append (λ (s : Sending). s.what) first.sends more.sends
       ∙ (ap (λ (l : List Sent). l ++ map (λ (s : Sending). s.what) more.sends) first.same
-      ∙ (ap (λ (l : List Sent). map sents.Request (requests_given first.calls) ++ l) more.same
-      ∙ (sym (map-append sents.Request (requests_given first.calls) (requests_given more.calls))
-      ∙ ap (map sents.Request) (sym (given_then first.calls more.calls)))));
+      ∙ (ap (λ (l : List Sent). map sents.Request (given_by request_given first.calls) ++ l) more.same
+      ∙ (sym (map-append sents.Request (given_by request_given first.calls) (given_by request_given more.calls))
+      ∙ ap (map sents.Request) (sym (given_then request_given first.calls more.calls)))));
   cut_is = cuts_then first.sends more.sends a b first.cut_is more.cut_is;
 }
 

@@ -12,7 +12,7 @@ use Rattle.gw_shared.proofs.Pumping.{same_actor}
 use Rattle.gw_ends.specs.declared.sent.Sending.{Sending}
 use Rattle.gw_threads.specs.Sends.{AreSent}
 use Rattle.gw_threads.specs.Standing.{SentAlone, StandAlone}
-use Rattle.gw_threads.specs.Written.{AreCalls, Call}
+use Rattle.gw_threads.specs.Calls.{AreCalls, Call}
 
 pub calls_stand : (setup : Setup) (mine after : Pass) (calls : List Call) → AreCalls setup mine calls after
     → StandAlone mine after calls

@@ -1,3 +1,4 @@
+pub mod Calls
 pub mod Carries
 pub mod Written
 pub mod Sends

@@ -1,5 +1,5 @@
 -- What the writer towards an outstation sends.
-use Rattle.std.specs.Prelude.{◌≡◌, ℕ, Bool, true, false, List, [], ◌∷◌, ◌++◌, map, Result, Ok}
+use Rattle.std.specs.Prelude.{◌≡◌, ℕ, Bool, true, false, ◌==◌, List, [], ◌∷◌, ◌++◌, map, Result, Ok}
 use Rattle.std.specs.List.{AllByRecursion}
 use Rattle.dnp_app.specs.declared.request.Request.{Request}
 use Rattle.gw_map.specs.Settings.{Setup}
@@ -8,12 +8,13 @@ use Rattle.gw_steps.specs.declared.step.Step.TheVariants as steps
 use Rattle.gw_steps.specs.declared.step.Reply.{Reply}
 use Rattle.gw_steps.specs.declared.step.Reply.TheVariants as replies
 use Rattle.gw_steps.specs.declared.step.StepFault.{StepFault}
+use Rattle.gw_shared.specs.Reached.{entries_of}
 use Rattle.gw_shared.specs.Turn.{Answers, Pass}
 use Rattle.gw_ends.specs.declared.sent.Sent.TheVariants as sents
 use Rattle.gw_ends.specs.declared.sent.Sending.{Sending}
 use Rattle.gw_ends.specs.Sent.{IsNew, IsSent, is_cut_off}
 use Rattle.one_log.specs.Follows.{Known}
-use Rattle.gw_threads.specs.Written.{AreCalls, Call}
+use Rattle.gw_threads.specs.Calls.{AreCalls, Call, all_given, given_by}
 
 -- a step polls an outstation, or tells that it is lost
 abbrev pub IsTowards : ℕ → Step → Type 0
@@ -30,11 +31,6 @@ abbrev pub request_given : Step → Result Reply StepFault → List Request
 request_given (steps.Poll o moment wall) (Ok (replies.Request request)) = request ∷ []
 request_given _ _ = []
 
--- those of calls, in their order
-abbrev pub requests_given : List Call → List Request
-requests_given [] = []
-requests_given (c ∷ calls) = request_given c.step c.reply ++ requests_given calls
-
 -- one after another these were sent, each the newest of the line's history then; others may have sent between
 abbrev pub AreSent : Known Sending → List Sending → Known Sending → Type 0
 AreSent old [] new = old ≡ new
@@ -49,13 +45,30 @@ pub record SentAll (setup : Setup) (outstation : ℕ) (mine after : Pass) (old n
   pub own : AllByRecursion (λ (c : Call). IsTowards outstation c.step) calls
   pub sends : List Sending
   pub sent : AreSent old sends new
-  pub same : map (λ (s : Sending). s.what) sends ≡ map sents.Request (requests_given calls)
+  pub same : map (λ (s : Sending). s.what) sends ≡ map sents.Request (given_by request_given calls)
   pub cut_is : is_cut_off sends ≡ cut
 
 -- and that is all that the worker sent since it joined the line
 abbrev pub SendsAll : Setup → ℕ → Pass → Pass → Known Sending → Bool → Type 0
 SendsAll setup outstation mine after front cut =
     (joined : Known Sending) × (IsNew joined × SentAll setup outstation mine after joined front cut)
+
+-- a step polls an outstation
+abbrev pub is_poll : ℕ → Step → Bool
+is_poll outstation (steps.Poll o moment wall) = outstation == o
+is_poll outstation _ = false
+
+-- since a pass knew a beginning of the one history, all polls of the outstation, whoever made them, were answered with just
+-- the requests that the worker sent since it joined the line, in this order
+pub record SendsAllGiven (outstation : ℕ) (mine after : Pass) (front : Known Sending) : Type 0 where
+  pub joined : Known Sending
+  pub is_new : IsNew joined
+  pub sends : List Sending
+  pub sent : AreSent joined sends front
+  pub requests : List Request
+  pub same : map (λ (s : Sending). s.what) sends ≡ map sents.Request requests
+  pub all : all_given (is_poll outstation) request_given (entries_of after.seen)
+      ≡ all_given (is_poll outstation) request_given (entries_of mine.seen) ++ requests
 
 -- a call that polls the outstation was answered so
 abbrev pub PollsOnce : Setup → ℕ → Pass → Pass → Result Reply StepFault → Type 0

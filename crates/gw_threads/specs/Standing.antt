@@ -7,7 +7,7 @@ use Rattle.gw_steps.specs.Runs.{Entry}
 use Rattle.gw_shared.specs.Reached.{entry}
 use Rattle.gw_shared.specs.Turn.{Pass}
 use Rattle.gw_ends.specs.declared.sent.Sending.{Sending}
-use Rattle.gw_threads.specs.Written.{Call}
+use Rattle.gw_threads.specs.Calls.{Call}
 
 -- a call is the oldest of these entries; or it was refused, since no further call could be counted
 abbrev pub IsOldest : Call → List Entry → List Entry → Type 0

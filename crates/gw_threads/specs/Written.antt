@@ -1,5 +1,5 @@
 -- What a client's writer hands over.
-use Rattle.std.specs.Prelude.{◌≡◌, ℕ, List, [], ◌∷◌, ◌++◌, take, Option, Some, None, Result, Ok, Err}
+use Rattle.std.specs.Prelude.{◌≡◌, ℕ, Bool, false, ◌==◌, List, [], ◌∷◌, ◌++◌, take, Option, Some, None, Result, Ok, Err}
 use Rattle.std.specs.List.{AllByRecursion}
 use Rattle.std.specs.Io.KnownBytes.{Appends}
 use Rattle.gw_map.specs.Settings.{Setup, station_clocks}
@@ -11,9 +11,11 @@ use Rattle.gw_steps.specs.declared.step.Reply.TheVariants.{Apdu}
 use Rattle.gw_steps.specs.declared.step.StepFault.{StepFault}
 pub use Rattle.gw_shared.specs.Pumping.{IsPumped}
 use Rattle.gw_shared.specs.Pumping.{PumpsOnce}
+use Rattle.gw_shared.specs.Reached.{entries_of}
 use Rattle.gw_shared.specs.Turn.{Answers, Pass}
 use Rattle.gw_shared.specs.declared.pumped.Pumped.{Pumped}
 use Rattle.gw_shared.specs.declared.pumped.Pumped.TheVariants as pumps
+use Rattle.gw_threads.specs.Calls.{AreCalls, Call, all_given, given_by}
 use Rattle.gw_threads.specs.Carries.{CarriesFit}
 use Rattle.gw_ends.specs.PutOut.{Given, joined}
 use Rattle.gw_ends.specs.declared.putting.Gathered.{Gathered}
@@ -45,18 +47,6 @@ pub record IsPutOut (client : ℕ) (apdu : ApduBuf) : Type 0 where
   pub pumped : IsPumped client (Ok (Apdu apdu))
   pub fit : CarriesFit (station_clocks pumped.setup.station) apdu
 
--- a call that was made with a pass: its step, its number, and what it was answered
-pub record Call : Type 0 where
-  pub step : Step
-  pub number : ℕ
-  pub reply : Result Reply StepFault
-
--- calls, one after another, led from a pass to another: each has its place in the one history, behind those before it
-abbrev pub AreCalls : Setup → Pass → List Call → Pass → Type 0
-AreCalls setup mine [] after = mine ≡ after
-AreCalls setup mine (c ∷ calls) after =
-    (mid : Pass) × (Answers setup mine mid c.step (c.number, c.reply) × AreCalls setup mid calls after)
-
 -- a step pumps for a client, or tells that it is lost
 abbrev pub IsFor : ℕ → Step → Type 0
 IsFor client (steps.Pump c moment) = c ≡ client
@@ -68,47 +58,54 @@ abbrev pub apdu_given : Step → Result Reply StepFault → List ApduBuf
 apdu_given (steps.Pump c moment) (Ok (Apdu apdu)) = apdu ∷ []
 apdu_given _ _ = []
 
--- those of calls, in their order
-abbrev pub apdus_given : List Call → List ApduBuf
-apdus_given [] = []
-apdus_given (c ∷ calls) = apdu_given c.step c.reply ++ apdus_given calls
-
 -- all calls of the pass in that time were for the client, and their pumps were answered with just these APDUs, in this
 -- order
 pub record Asked (setup : Setup) (client : ℕ) (mine after : Pass) (apdus : List ApduBuf) : Type 0 where
   pub calls : List Call
   pub made : AreCalls setup mine calls after
   pub own : AllByRecursion (λ (c : Call). IsFor client c.step) calls
-  pub given : apdus_given calls ≡ apdus
+  pub given : given_by apdu_given calls ≡ apdus
   pub each : AllByRecursion (IsPutOut client) apdus
 
--- the writer took the octets of the APDUs that these calls were answered with
-pub record Wrote (setup : Setup) (client : ℕ) (mine after : Pass) (before octets : Option (List ℕ)) : Type 0 where
+-- a step pumps for a client
+abbrev pub is_pump : ℕ → Step → Bool
+is_pump client (steps.Pump c moment) = client == c
+is_pump client _ = false
+
+-- since a pass knew a beginning of the one history, all pumps for the client, whoever made them, were answered with just
+-- these APDUs, in this order
+abbrev pub AreAll : ℕ → Pass → Pass → List ApduBuf → Type 0
+AreAll client mine after apdus =
+    all_given (is_pump client) apdu_given (entries_of after.seen)
+    ≡ all_given (is_pump client) apdu_given (entries_of mine.seen) ++ apdus
+
+-- the writer took the octets of APDUs, which meet a condition
+pub record Wrote (are : List ApduBuf → Type 0) (before octets : Option (List ℕ)) : Type 0 where
   pub apdus : List ApduBuf
-  pub asked : Asked setup client mine after apdus
+  pub asked : are apdus
   pub taken : Appends before octets (joined apdus)
 
 -- it took the front of them
-pub record WroteFront (setup : Setup) (client : ℕ) (mine after : Pass) (before octets : Option (List ℕ)) : Type 0 where
+pub record WroteFront (are : List ApduBuf → Type 0) (before octets : Option (List ℕ)) : Type 0 where
   pub apdus : List ApduBuf
-  pub asked : Asked setup client mine after apdus
+  pub asked : are apdus
   pub count : ℕ
   pub taken : Appends before octets (take count (joined apdus))
 
 -- what it took until it ended so
-abbrev pub Writes : Setup → ℕ → Pass → Pass → Option (List ℕ) → Option (List ℕ) → WorkerEnd → Type 0
-Writes setup client mine after before octets ends.WriteFault = WroteFront setup client mine after before octets
-Writes setup client mine after before octets _ = Wrote setup client mine after before octets
+abbrev pub Writes : (List ApduBuf → Type 0) → Option (List ℕ) → Option (List ℕ) → WorkerEnd → Type 0
+Writes are before octets ends.WriteFault = WroteFront are before octets
+Writes are before octets _ = Wrote are before octets
 
 -- what it took in one run
-abbrev pub WritesPut : Setup → ℕ → Pass → Pass → Option (List ℕ) → Option (List ℕ) → Put → Type 0
-WritesPut setup client mine after before octets puts.Unwritten = WroteFront setup client mine after before octets
-WritesPut setup client mine after before octets (puts.Ended last) = Wrote setup client mine after before octets
-WritesPut setup client mine after before octets puts.More = Wrote setup client mine after before octets
+abbrev pub WritesPut : (List ApduBuf → Type 0) → Option (List ℕ) → Option (List ℕ) → Put → Type 0
+WritesPut are before octets puts.Unwritten = WroteFront are before octets
+WritesPut are before octets (puts.Ended last) = Wrote are before octets
+WritesPut are before octets puts.More = Wrote are before octets
 
-abbrev pub WritesIfEnded : Setup → ℕ → Pass → Pass → Option (List ℕ) → Option (List ℕ) → Option WorkerEnd → Type 0
-WritesIfEnded setup client mine after before octets None = Wrote setup client mine after before octets
-WritesIfEnded setup client mine after before octets (Some end) = Writes setup client mine after before octets end
+abbrev pub WritesIfEnded : (List ApduBuf → Type 0) → Option (List ℕ) → Option (List ℕ) → Option WorkerEnd → Type 0
+WritesIfEnded are before octets None = Wrote are before octets
+WritesIfEnded are before octets (Some end) = Writes are before octets end
 
 -- a call told that the client is lost
 abbrev pub TellsLoss : Setup → ℕ → Pass → Pass → Type 0

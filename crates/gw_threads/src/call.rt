@@ -1,5 +1,6 @@
 //! Calls on the core, of which the gate is told.
 ghost use Rattle.std.specs.Prelude.{◌≡◌, ℕ};
+ghost use Rattle.gw_shared.specs.Roles.{MayMake};
 ghost use Rattle.gw_shared.specs.Turn.{Answers};
 
 use crate::gate::Gate;
@@ -155,6 +156,7 @@ pub fn make_call<L: Course, S: Calls<L>, R: Wait, G: Gate>(
     step: Step,
     gate: &G,
 ) -> Result<Reply, StepFault>
+    requires may { MayMake L.roles pass.old.actor step }
     ensures answered { (number : ℕ) × Answers L.setup pass.old pass.new step (number, result) }
     ensures own { pass.new.actor ≡ pass.old.actor }
 {

@@ -2,7 +2,8 @@
 ghost use Rattle.std.specs.Prelude.{◌≡◌, ◌||◌, IfSome, Some};
 ghost use Rattle.gw_ends.specs.Ends.{is_write_fault, MayEndWriting};
 ghost use Rattle.gw_ends.specs.PutOut.{is_unwritten};
-ghost use Rattle.gw_threads.specs.Written.{Settles, Writes, WritesIfEnded, WritesPut};
+ghost use Rattle.gw_shared.specs.Roles.{IsOne};
+ghost use Rattle.gw_threads.specs.Written.{AreAll, Asked, Settles, Writes, WritesIfEnded, WritesPut};
 
 use crate::gate::Gate;
 use crate::source::SharedSource;
@@ -22,16 +23,24 @@ pub fn client_writer<'a, L: Course, S: Calls<L>, R: Wait, W: Outgoing, C: Clock,
     clock: &'a C,
     gate: &'a G,
 ) -> (Pass<L>, WorkerEnd)
+    requires may { IsOne (L.roles.pumper client) pass.actor }
     ensures own { result.0.actor ≡ pass.actor }
-    ensures written { Writes L.setup client pass result.0 (W.contents writer.old) (W.contents writer.new) result.1 }
+    ensures written { Writes (Asked L.setup client pass result.0)
+        (W.contents writer.old) (W.contents writer.new) result.1 }
+    // Where the client's pumps are left to this actor, these APDUs are all that they were answered with in that time.
+    ensures all { L.roles.pumper client ≡ Some pass.actor
+        → Writes (AreAll client pass result.0) (W.contents writer.old) (W.contents writer.new) result.1 }
     ensures end { MayEndWriting result.1 }
     // It ended by a failed write exactly where one failed, unless one had before.
     ensures failed { W.has_failed writer.new ≡ (is_write_fault (Some result.1) || W.has_failed writer.old) }
 {
+    pass.attest();
     let mut source = SharedSource::new(rt, shared, pass, client, clock, gate);
     let mut batch = Batch::new();
     let end = write_on(&mut source, writer, &mut batch);
-    (source.into_pass(), end)
+    let pass = source.into_pass();
+    pass.attest();
+    (pass, end)
 }
 
 /// Run after run, until the worker is to end.
@@ -41,7 +50,8 @@ fn write_on<L: Course, S: Calls<L>, R: Wait, W: Outgoing, C: Clock, G: Gate>(
     batch: &mut Batch,
 ) -> WorkerEnd
     ensures client { source.new.client ≡ source.old.client }
-    ensures written { Writes L.setup source.old.client source.old.pass source.new.pass (W.contents writer.old) (W.contents writer.new) result }
+    ensures written { Writes (Asked L.setup source.old.client source.old.pass source.new.pass)
+        (W.contents writer.old) (W.contents writer.new) result }
     ensures end { MayEndWriting result }
     ensures failed { W.has_failed writer.new ≡ (is_write_fault (Some result) || W.has_failed writer.old) }
 {
@@ -60,7 +70,8 @@ fn write_run<L: Course, S: Calls<L>, R: Wait, W: Outgoing, C: Clock, G: Gate>(
     batch: &mut Batch,
 ) -> Option<WorkerEnd>
     ensures client { source.new.client ≡ source.old.client }
-    ensures written { WritesIfEnded L.setup source.old.client source.old.pass source.new.pass (W.contents writer.old) (W.contents writer.new) result }
+    ensures written { WritesIfEnded (Asked L.setup source.old.client source.old.pass source.new.pass)
+        (W.contents writer.old) (W.contents writer.new) result }
     ensures end { IfSome result MayEndWriting }
     ensures failed { W.has_failed writer.new ≡ (is_write_fault result || W.has_failed writer.old) }
 {
@@ -93,7 +104,8 @@ fn put_run<L: Course, S: Calls<L>, R: Wait, W: Outgoing, C: Clock, G: Gate>(
     batch: &mut Batch,
 ) -> Put
     ensures client { source.new.client ≡ source.old.client }
-    ensures written { WritesPut L.setup source.old.client source.old.pass source.new.pass (W.contents writer.old) (W.contents writer.new) result }
+    ensures written { WritesPut (Asked L.setup source.old.client source.old.pass source.new.pass)
+        (W.contents writer.old) (W.contents writer.new) result }
     ensures failed { W.has_failed writer.new ≡ (is_unwritten (Some result) || W.has_failed writer.old) }
 {
     put_out(source, writer, batch)

@@ -6,7 +6,7 @@ ghost use Rattle.gw_map.specs.Settings.{Setup};
 ghost use Rattle.gw_shared.specs.Turn.{Pass};
 ghost use Rattle.gw_threads.specs.Sends.{AreSent};
 ghost use Rattle.gw_threads.specs.Standing.{SentAlone, StandAlone};
-ghost use Rattle.gw_threads.specs.Written.{AreCalls, Call};
+ghost use Rattle.gw_threads.specs.Calls.{AreCalls, Call};
 
 /// Calls that are made with a pass one after another are, since the pass knew a beginning of the one history, all calls of
 /// its actor in it, each once, in their order.

@@ -5,6 +5,7 @@
 
 mod call;
 mod client_writing;
+pub mod examples;
 mod gate;
 pub mod laws;
 mod lost;

@@ -1,7 +1,8 @@
 //! The writer towards an outstation.
 ghost use Rattle.std.specs.Prelude.{◌≡◌, false, IfSome, MatchOption, Some};
 ghost use Rattle.gw_ends.specs.Ends.{is_write_fault, MayEndWriting};
-ghost use Rattle.gw_threads.specs.Sends.{is_request, PollsOnce, SendsAll, SentAll};
+ghost use Rattle.gw_shared.specs.Roles.{IsOne};
+ghost use Rattle.gw_threads.specs.Sends.{is_request, PollsOnce, SendsAll, SendsAllGiven, SentAll};
 
 use crate::call::make_call;
 use crate::gate::{Gate, Place};
@@ -36,11 +37,15 @@ pub fn outstation_writer<
     clock: &C,
     gate: &G,
 ) -> (Pass<L>, Front<Sending, N>, WorkerEnd)
+    requires may { IsOne (L.roles.poller outstation) pass.actor }
     ensures own { result.0.actor ≡ pass.actor }
     // It ended by a failed write exactly where one of its requests wasn't taken whole.
     ensures sent { SendsAll L.setup outstation pass result.0 result.1 (is_write_fault (Some result.2)) }
+    // Where the outstation's polls are left to this actor, these requests are all that they were answered with.
+    ensures all { L.roles.poller outstation ≡ Some pass.actor → SendsAllGiven outstation pass result.0 result.1 }
     ensures end { MayEndWriting result.2 }
 {
+    pass.attest();
     let mut pass = pass;
     let mut mine = line.join(rt);
     let mut streak = RequestStreak::new();
@@ -57,6 +62,7 @@ pub fn outstation_writer<
             gate,
         );
         if let Some(end) = next {
+            pass.attest();
             return (pass, mine, end);
         }
     }
@@ -84,6 +90,7 @@ fn write_next<
     clock: &C,
     gate: &G,
 ) -> Option<WorkerEnd>
+    requires may { IsOne (L.roles.poller outstation) pass.old.actor }
     ensures sent { SentAll L.setup outstation pass.old pass.new mine.old mine.new (is_write_fault result) }
     ensures end { IfSome result MayEndWriting }
 {
@@ -121,6 +128,7 @@ fn send_next<
     clock: &C,
     gate: &G,
 ) -> Option<WorkerEnd>
+    requires may { IsOne (L.roles.poller outstation) pass.old.actor }
     ensures sent { SentAll L.setup outstation pass.old pass.new mine.old mine.new (is_write_fault result) }
     ensures end { IfSome result MayEndWriting }
 {
@@ -196,6 +204,7 @@ fn poll<L: Course, S: Calls<L>, R: Wait, C: Clock, G: Gate>(
     clock: &C,
     gate: &G,
 ) -> Result<Reply, StepFault>
+    requires { IsOne (L.roles.poller outstation) pass.old.actor }
     ensures { PollsOnce L.setup outstation pass.old pass.new result }
 {
     let step = Step::Poll {

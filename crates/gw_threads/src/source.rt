@@ -1,5 +1,6 @@
 //! What gives the replies to pumps.
 ghost use Rattle.std.specs.Prelude.{◌≡◌};
+ghost use Rattle.gw_shared.specs.Roles.{IsOne};
 ghost use Rattle.gw_threads.specs.Written.{gathered_by, GivesTo, TellsLoss};
 
 use crate::call::Run;
@@ -24,11 +25,14 @@ pub struct SharedSource<'a, L: Course, S: Calls<L>, R: Wait, C: Clock, G: Gate> 
 
 impl<'a, L: Course, S: Calls<L>, R: Wait, C: Clock, G: Gate> Model
     for SharedSource<'a, L, S, R, C, G> {
+    ghost use Rattle.gw_shared.specs.Roles.{IsOne};
     ghost use Rattle.gw_threads.specs.Written.{Asking};
 
     ghost Value = { Asking };
 
     ghost view = { λ s. record { client = s.client; pass = s.pass } };
+
+    ghost invariant = { λ s. IsOne (L.roles.pumper s.client) s.pass.actor };
 }
 
 impl<'a, L: Course, S: Calls<L>, R: Wait, C: Clock, G: Gate> SharedSource<'a, L, S, R, C, G> {
@@ -41,6 +45,7 @@ impl<'a, L: Course, S: Calls<L>, R: Wait, C: Clock, G: Gate> SharedSource<'a, L,
         clock: &'a C,
         gate: &'a G,
     ) -> SharedSource<'a, L, S, R, C, G>
+        requires { IsOne (L.roles.pumper client) pass.actor }
         ensures { result ≡ record { client = client; pass = pass } }
     {
         SharedSource {

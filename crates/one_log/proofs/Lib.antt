@@ -4,3 +4,4 @@ pub mod Pasts
 pub mod Keeping
 pub mod Adding
 pub mod Fronts
+pub mod Worked

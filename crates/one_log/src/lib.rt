@@ -3,6 +3,7 @@
 //! Contracts see logs newest first.
 #![tactic(auto)]
 
+pub mod examples;
 mod link;
 mod log;
 

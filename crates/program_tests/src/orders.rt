@@ -156,7 +156,7 @@ fn orders(rt: HostRuntime) {
 
 /// Goes through it on a core of its own.
 fn run<L: Course, R: Wait + Abort + AllocGlobal>(rt: &R, opening: Opening, sequel: &Sequel)
-    requires { IsFor L.name L.parts L.book L.setup 1 opening }
+    requires { IsFor L.name L.parts L.book L.setup L.roles 1 opening }
 {
     let mut core = TestCore::<L>::new(rt.alloc(), opening, 1, 8).expect(rt, "a core");
     let mut ended = Vec::new(rt.alloc());

@@ -1,14 +1,15 @@
 //! Cores to test on, and their end.
-ghost use Rattle.std.specs.Prelude.{◌<◌};
+ghost use Rattle.std.specs.Prelude.{◌≡◌, ◌<◌};
+ghost use Rattle.gw_shared.specs.Roles.{anybody};
 ghost use Rattle.test_tools.specs.Opening.{IsFor};
 
 use crate::asking::{Answer, Turn, has_text, step_of};
-use crate::memory::{read_alone, read_client};
+use crate::memory::{read_alone, read_client, write_client};
 use crate::opening::Opening;
-use crate::peers::{Source, Still};
+use crate::peers::Source;
 use gw_ends::open_line;
 use gw_hub::Hub;
-use gw_readers::{Calls, Course, Gate, Incoming, Outgoing, Pass, Step, WorkerEnd, client_writer};
+use gw_readers::{Calls, Course, Gate, Incoming, Outgoing, Pass, Step, WorkerEnd};
 use std::alloc::Global;
 use std::marker::Brand;
 use std::sync::Wait;
@@ -19,11 +20,12 @@ pub type Shared<L> = gw_readers::Shared<L, Hub>;
 /// The recorder of a hub.
 pub type Recorder = gw_readers::Recorder<Hub>;
 
-/// A shared core, and the passes of its actors that no call has taken.
+/// A shared core on which anybody may make any call, and the passes of its actors that no call has taken.
 #[derive(Drop)]
 pub struct TestCore<L: Course> {
     pub shared: Shared<L>,
     pub passes: Vec<Pass<L>>,
+    pub ghost roles_are: { L.roles ≡ anybody },
 }
 
 impl<L: Course> TestCore<L> {
@@ -34,7 +36,7 @@ impl<L: Course> TestCore<L> {
         actors: usize,
         capacity: usize,
     ) -> Option<TestCore<L>>
-        requires opening { IsFor L.name L.parts L.book L.setup actors opening }
+        requires opening { IsFor L.name L.parts L.book L.setup L.roles actors opening }
         requires some { (0 < actors) × (0 < capacity) }
     {
         let Opening {
@@ -47,6 +49,7 @@ impl<L: Course> TestCore<L> {
     }
 
     /// Makes a step as an actor: the number of the call, and what was answered; nothing where the actor has no pass.
+    #[tactic(auto, using(crate::proofs::Anybody::anybody_may))]
     pub fn step<R: Wait>(&mut self, rt: &R, actor: usize, step: Step) -> Option<(u64, Answer)> {
         let pass = self.passes.get_mut(actor)?;
         Some(self.shared.step(rt, pass, step))
@@ -139,14 +142,15 @@ impl<L: Course> TestCore<L> {
     }
 
     /// Writes to client 0, with the last pass; if there is one.
-    pub fn write_client<'a, R: Wait, W: Outgoing, G: Gate>(
-        &'a mut self,
-        rt: &'a R,
+    #[tactic(auto, using(crate::proofs::Anybody::anybody_pumps))]
+    pub fn write_client<R: Wait, W: Outgoing, G: Gate>(
+        &mut self,
+        rt: &R,
         writer: &mut W,
-        gate: &'a G,
+        gate: &G,
     ) -> Option<WorkerEnd> {
         let pass = self.passes.pop()?;
-        let (pass, end) = client_writer(rt, &self.shared, pass, 0, writer, &Still, gate);
+        let (pass, end) = write_client(rt, &self.shared, pass, 0, writer, gate);
         self.passes.push(pass).ok()?;
         Some(end)
     }

@@ -1,12 +1,13 @@
 //! Ends of connections in memory.
 ghost use Rattle.std.specs.Prelude.{◌≡◌, false, None};
+ghost use Rattle.gw_shared.specs.Roles.{IsOne};
 
 use crate::cores::Shared;
 use crate::peers::{MASTER, Source, Still};
 use dnp_receive::Receiver;
 use gw_readers::{
     Arrival, Calls, Course, Gate, Incoming, Line, LineCourse, Opened, Outgoing, Pass, Patience,
-    Sending, Unwritten, WorkerEnd, client_reader, outstation_reader,
+    Sending, Unwritten, WorkerEnd, client_reader, client_writer, outstation_reader,
 };
 use std::alloc::Global;
 use std::sync::Wait;
@@ -22,6 +23,8 @@ pub struct Sent<'a> {
 }
 
 impl<'a> Incoming for Sent<'a> {
+    ghost given = { λ _. None };
+
     ghost has_failed = { λ _. false };
 
     fn receive(&mut self, buffer: &mut [u8]) -> Arrival {
@@ -114,6 +117,20 @@ pub fn read_client<L: Course, S: Calls<L>, R: Wait + AllocGlobal, I: Incoming, G
     gate: &G,
 ) -> (Pass<L>, WorkerEnd) {
     client_reader(rt.alloc(), rt, shared, pass, client, input, &Still, gate)
+}
+
+/// Writes to a client.
+pub fn write_client<L: Course, S: Calls<L>, R: Wait, W: Outgoing, G: Gate>(
+    rt: &R,
+    shared: &S,
+    pass: Pass<L>,
+    client: u8,
+    writer: &mut W,
+    gate: &G,
+) -> (Pass<L>, WorkerEnd)
+    requires { IsOne (L.roles.pumper client) pass.actor }
+{
+    client_writer(rt, shared, pass, client, writer, &Still, gate)
 }
 
 /// Reads what an outstation sends.

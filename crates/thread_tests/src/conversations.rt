@@ -263,7 +263,7 @@ fn converse<L: Course, R: Wait + Abort + AllocGlobal>(
     opening: Opening,
     conversation: &Conversation,
 )
-    requires { IsFor L.name L.parts L.book L.setup 2 opening }
+    requires { IsFor L.name L.parts L.book L.setup L.roles 2 opening }
 {
     let Recording { room, turns, .. } = conversation.recording;
     let mut core = TestCore::<L>::new(rt.alloc(), opening, 2, (*room).max(1)).expect(rt, "a core");

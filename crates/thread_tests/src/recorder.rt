@@ -19,7 +19,7 @@ fn the_largest_recorder(rt: HostRuntime) {
 
 /// Makes a call more than it keeps.
 fn fill<L: Course, R: Wait + Abort + AllocGlobal>(rt: &R, opening: Opening)
-    requires { IsFor L.name L.parts L.book L.setup 1 opening }
+    requires { IsFor L.name L.parts L.book L.setup L.roles 1 opening }
 {
     let mut core = TestCore::<L>::new(rt.alloc(), opening, 1, MOST as usize).expect(rt, "a core");
     for moment in 0..MOST + 1 {

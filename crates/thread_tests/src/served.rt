@@ -46,7 +46,7 @@ fn a_loss_wakes(rt: HostRuntime) {
 }
 
 fn lose<L: Course, R: Wait + Abort + AllocGlobal>(rt: &R, opening: Opening)
-    requires { IsFor L.name L.parts L.book L.setup 1 opening }
+    requires { IsFor L.name L.parts L.book L.setup L.roles 1 opening }
 {
     let mut core = TestCore::<L>::new(rt.alloc(), opening, 1, 64).expect(rt, "a core");
     let turns: [Turn; 7] = [(0, 0); 7];
@@ -95,7 +95,7 @@ fn half_a_queue(rt: HostRuntime) {
 }
 
 fn fill<L: Course, R: Wait + Abort + AllocGlobal>(rt: &R, opening: Opening)
-    requires { IsFor L.name L.parts L.book L.setup 1 opening }
+    requires { IsFor L.name L.parts L.book L.setup L.roles 1 opening }
 {
     let mut core = TestCore::<L>::new(rt.alloc(), opening, 1, 64).expect(rt, "a core");
     for line in [
@@ -115,6 +115,7 @@ fn fill<L: Course, R: Wait + Abort + AllocGlobal>(rt: &R, opening: Opening)
 }
 
 /// Gives client 0 what waits for it: it counts as one that reads then.
+#[tactic(auto, using(test_tools::proofs::Anybody::anybody_pumps))]
 fn give<L: Course, R: Wait + Abort>(rt: &R, core: &mut TestCore<L>) {
     let pass = core.passes.get_mut(0).expect(rt, "a pass");
     core.shared.pump(rt, pass, 0, 0, &mut Batch::new());

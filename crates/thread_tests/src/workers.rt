@@ -1,6 +1,7 @@
 //! Tests of the workers over memory: two outstations and two clients at once, some of whose workers are held while the
 //! others go on.
 ghost use Rattle.std.specs.Prelude.{◌≡◌, false, None};
+ghost use Rattle.gw_shared.specs.Roles.{anybody};
 ghost use Rattle.test_tools.specs.Opening.{IsFor};
 
 use crate::checks::same;
@@ -65,6 +66,7 @@ struct Scene<'a, 'b, L: Course, M: LineCourse, N: LineCourse, R: Wait> {
     taken: &'a AllTaken,
     /// How many workers have not ended.
     at_work: AtomicU64,
+    ghost roles_are: { L.roles ≡ anybody },
 }
 
 /// What the peers took.
@@ -111,7 +113,7 @@ fn workers(rt: HostRuntime) {
 
 /// Lets the workers of all peers and the clock work until the peers' octets end.
 fn work<L: Course + Send + Sync, R: Host>(rt: &R, opening: Opening)
-    requires { IsFor L.name L.parts L.book L.setup 9 opening }
+    requires { IsFor L.name L.parts L.book L.setup L.roles 9 opening }
 {
     let mut core = TestCore::<L>::new(rt.alloc(), opening, 9, ROOM).expect(rt, "a core");
     assert!(rt; core.answers_so(rt, UP_TURNS, UPS, "ok\nok\nok\nok\n"));
@@ -136,7 +138,9 @@ fn serve<L: Course + Send + Sync, R: Host>(
     shared: &Shared<L>,
     taken: &AllTaken,
     passes: Vec<Pass<L>>,
-) -> Vec<Pass<L>> {
+) -> Vec<Pass<L>>
+    requires roles { L.roles ≡ anybody }
+{
     let [client_0, client_1] = &taken.clients;
     let gate = Held::new(rt, &client_0.has_ended, &client_1.has_ended);
     let first = open_line().expect(rt, "a history");
@@ -167,6 +171,7 @@ fn serve_on<
     requires books { (first.seen.book ≡ M.book) × (second.seen.book ≡ N.book) }
     requires first { (M.first ≡ None) × (N.first ≡ None) }
     requires failed { (M.failed ≡ false) × (N.failed ≡ false) }
+    requires roles { L.roles ≡ anybody }
 {
     let [source_0, source_1] = SOURCES;
     let [octets_0, octets_1] = &taken.outstations;
@@ -270,6 +275,7 @@ fn write_outstation<L: Course, M: LineCourse, N: LineCourse, R: Host>(
     }
 }
 
+#[tactic(auto, using(test_tools::proofs::Anybody::anybody_polls))]
 fn write_on<'b, L: Course, M: LineCourse, N: LineCourse, O: LineCourse, R: Host>(
     scene: &Scene<'_, 'b, L, M, N, R>,
     outstation: u8,
@@ -288,6 +294,7 @@ fn write_on<'b, L: Course, M: LineCourse, N: LineCourse, O: LineCourse, R: Host>
     (pass, end)
 }
 
+#[tactic(auto, using(test_tools::proofs::Anybody::anybody_pumps))]
 fn write_client<L: Course, M: LineCourse, N: LineCourse, R: Host>(
     scene: &Scene<'_, '_, L, M, N, R>,
     client: u8,

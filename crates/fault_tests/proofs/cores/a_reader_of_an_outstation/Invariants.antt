@@ -1,4 +1,5 @@
--- The ledger and the history are those that were made for this core, and the settings are its hub's.
+-- The ledger and the history are those that were made for this core, the settings are its hub's, and anybody may make any call.
+use Rattle.gw_shared.specs.Roles.{anybody}
 use Rattle.fault_tests.proofs.cores.a_reader_of_an_outstation.Given as goal
 
 abbrev pub ghosts-read_outstation_on-L-Ledger : goal.ghosts-read_outstation_on-L-Ledger
@@ -8,4 +9,4 @@ abbrev pub ghosts-read_outstation_on-L-Naming : goal.ghosts-read_outstation_on-L
 ghosts-read_outstation_on-L-Naming g a = record { book = a.opening.history.seen.book }
 
 abbrev pub ghosts-read_outstation_on-L-Course : goal.ghosts-read_outstation_on-L-Course
-ghosts-read_outstation_on-L-Course g a = record { setup = a.opening.hub.setup }
+ghosts-read_outstation_on-L-Course g a = record { setup = a.opening.hub.setup; roles = anybody }

@@ -1,4 +1,5 @@
--- The ledger and the history are those that were made for this core, and the settings are its hub's.
+-- The ledger and the history are those that were made for this core, the settings are its hub's, and the roles the server's.
+use Rattle.gw_server.specs.Roles.{roles_of}
 use Rattle.gw_server.proofs.serving.serve_as.Given as goal
 
 abbrev pub ghosts-serve_with-L-Ledger : goal.ghosts-serve_with-L-Ledger
@@ -8,4 +9,4 @@ abbrev pub ghosts-serve_with-L-Naming : goal.ghosts-serve_with-L-Naming
 ghosts-serve_with-L-Naming g a = record { book = a.history.seen.book }
 
 abbrev pub ghosts-serve_with-L-Course : goal.ghosts-serve_with-L-Course
-ghosts-serve_with-L-Course g a = record { setup = a.opening.hub.setup }
+ghosts-serve_with-L-Course g a = record { setup = a.opening.hub.setup; roles = roles_of a.opening.outstations }

@@ -1,6 +1,6 @@
 use Rattle.std.proofs.Common.{ℕ, ◌||◌, Bool, Some, ap, ◌∙◌, refl, subst}
 use Rattle.gw_ends.specs.Ends.{is_write_fault}
-use Rattle.gw_threads.specs.Written.{Writes, Wrote}
+use Rattle.gw_threads.specs.Written.{Asked, Writes, Wrote}
 use Rattle.gw_threads.proofs.Gathering.{wrote_none, wrote-then, writes-then}
 use Rattle.gw_threads.proofs.client_writing.write_on.Goals as goal
 
@@ -10,7 +10,7 @@ returns-in-Some-write_run-clause-written g c =
     let behind = g.W.Outgoing.contents c.write_run.new.writer in
     let end = c.in-Some-write_run.end in
     writes-then _ _ _ c.runs.source.pass _ _ now behind end c.runs.invariant.wrote
-    (subst (λ (k : ℕ). Writes g.L.Course.setup k c.runs.source.pass c.write_run.new.source.pass now behind end)
+    (subst (λ (k : ℕ). Writes (Asked g.L.Course.setup k c.runs.source.pass c.write_run.new.source.pass) now behind end)
     c.runs.invariant.client c.in-Some-write_run.ensures.written)
 
 pub runs-preserved : goal.runs-preserved
@@ -21,7 +21,7 @@ runs-preserved g c =
       client = c.write_run.ensures.client ∙ c.runs.invariant.client;
       wrote =
           wrote-then _ _ _ c.runs.source.pass _ _ now behind c.runs.invariant.wrote
-          (subst (λ (k : ℕ). Wrote g.L.Course.setup k c.runs.source.pass c.write_run.new.source.pass now behind)
+          (subst (λ (k : ℕ). Wrote (Asked g.L.Course.setup k c.runs.source.pass c.write_run.new.source.pass) now behind)
           c.runs.invariant.client c.in_default.ensures.written);
       failed = c.in_default.ensures.failed ∙ c.runs.invariant.failed;
     }

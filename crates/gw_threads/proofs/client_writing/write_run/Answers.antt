@@ -2,7 +2,7 @@ use Rattle.std.proofs.Common.{ℕ, Option, ◌||◌, Bool, sym, ap, ◌∙◌, s
 use Rattle.gw_ends.specs.declared.worker_end.WorkerEnd.{WorkerEnd}
 use Rattle.gw_ends.specs.Ends.{is_write_fault}
 use Rattle.gw_ends.proofs.Failed.{writing_fails}
-use Rattle.gw_threads.specs.Written.{Settles, WritesIfEnded}
+use Rattle.gw_threads.specs.Written.{Asked, Settles, WritesIfEnded}
 use Rattle.gw_threads.proofs.Gathering.{settled}
 use Rattle.gw_threads.proofs.client_writing.write_run.Goals as goal
 
@@ -15,7 +15,7 @@ returns-clause-written g c =
     let before = g.W.Outgoing.contents c.args.writer.now in
     let octets = g.W.Outgoing.contents c.put_run-put.new.writer in
     let put = c.put_run-put.result in
-    subst (λ (end : Option WorkerEnd). WritesIfEnded setup mine.client mine.pass after before octets end)
+    subst (λ (end : Option WorkerEnd). WritesIfEnded (Asked setup mine.client mine.pass after) before octets end)
     (sym c.end.ensures)
     (settled setup mine.client mine.pass mid.pass after before octets put c.put_run-put.ensures.written
     (subst (λ (k : ℕ). Settles setup k mid.pass after put) c.put_run-put.ensures.client c.settle.ensures.settles))

@@ -1,4 +1,5 @@
--- The ledger and the history are those that were made for this core, and the settings are its hub's.
+-- The ledger and the history are those that were made for this core, the settings are its hub's, and anybody may make any call.
+use Rattle.gw_shared.specs.Roles.{anybody}
 use Rattle.program_tests.proofs.orders.orders.Given as goal
 
 abbrev pub ghosts-run-L-Ledger : goal.ghosts-run-L-Ledger
@@ -8,4 +9,4 @@ abbrev pub ghosts-run-L-Naming : goal.ghosts-run-L-Naming
 ghosts-run-L-Naming g a = record { book = a.opening.history.seen.book }
 
 abbrev pub ghosts-run-L-Course : goal.ghosts-run-L-Course
-ghosts-run-L-Course g a = record { setup = a.opening.hub.setup }
+ghosts-run-L-Course g a = record { setup = a.opening.hub.setup; roles = anybody }

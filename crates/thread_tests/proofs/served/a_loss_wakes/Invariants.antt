@@ -1,4 +1,5 @@
--- The ledger and the history are those that were made for this core, and the settings are its hub's.
+-- The ledger and the history are those that were made for this core, the settings are its hub's, and anybody may make any call.
+use Rattle.gw_shared.specs.Roles.{anybody}
 use Rattle.thread_tests.proofs.served.a_loss_wakes.Given as goal
 
 abbrev pub ghosts-lose-L-Ledger : goal.ghosts-lose-L-Ledger
@@ -8,4 +9,4 @@ abbrev pub ghosts-lose-L-Naming : goal.ghosts-lose-L-Naming
 ghosts-lose-L-Naming g a = record { book = a.opening.history.seen.book }
 
 abbrev pub ghosts-lose-L-Course : goal.ghosts-lose-L-Course
-ghosts-lose-L-Course g a = record { setup = a.opening.hub.setup }
+ghosts-lose-L-Course g a = record { setup = a.opening.hub.setup; roles = anybody }

@@ -1,4 +1,5 @@
--- The ledger and the history are those that were made for this core, and the settings are its hub's.
+-- The ledger and the history are those that were made for this core, the settings are its hub's, and anybody may make any call.
+use Rattle.gw_shared.specs.Roles.{anybody}
 use Rattle.thread_tests.proofs.served.half_a_queue.Given as goal
 
 abbrev pub ghosts-fill-L-Ledger : goal.ghosts-fill-L-Ledger
@@ -8,4 +9,4 @@ abbrev pub ghosts-fill-L-Naming : goal.ghosts-fill-L-Naming
 ghosts-fill-L-Naming g a = record { book = a.opening.history.seen.book }
 
 abbrev pub ghosts-fill-L-Course : goal.ghosts-fill-L-Course
-ghosts-fill-L-Course g a = record { setup = a.opening.hub.setup }
+ghosts-fill-L-Course g a = record { setup = a.opening.hub.setup; roles = anybody }

@@ -1,4 +1,5 @@
--- The ledger and the history are those that were made for this core, and the settings are its hub's.
+-- The ledger and the history are those that were made for this core, the settings are its hub's, and anybody may make any call.
+use Rattle.gw_shared.specs.Roles.{anybody}
 use Rattle.thread_tests.proofs.workers.workers.Given as goal
 
 abbrev pub ghosts-work-L-Ledger : goal.ghosts-work-L-Ledger
@@ -8,4 +9,4 @@ abbrev pub ghosts-work-L-Naming : goal.ghosts-work-L-Naming
 ghosts-work-L-Naming g a = record { book = a.opening.history.seen.book }
 
 abbrev pub ghosts-work-L-Course : goal.ghosts-work-L-Course
-ghosts-work-L-Course g a = record { setup = a.opening.hub.setup }
+ghosts-work-L-Course g a = record { setup = a.opening.hub.setup; roles = anybody }

@@ -1,9 +1,14 @@
-use Rattle.std.proofs.Common.{◌≡◌}
+-- The pieces so far were taken, and nothing of them waits.
+use Rattle.std.proofs.Common.{◌≡◌, [], None}
+use Rattle.iec_apci.specs.Calls.{reading_of_ending}
+use Rattle.gw_readers.specs.Frames.{Reads}
 use Rattle.gw_readers.proofs.client_reading.Reading.read_on.Given as goal
 
--- the pass is the one that was given, and no read failed
 abbrev pub invariant-pieces : goal.invariant-pieces
 invariant-pieces g l = record {
-  own : l.self.pass.actor ≡ l.fn.self.pass.actor;
-  failed : g.I.Incoming.has_failed l.input ≡ g.I.Incoming.has_failed l.fn.input;
+  client : l.self.client ≡ l.initial.self.client;
+  reads : Reads g.L.Course.setup l.initial.self.client l.initial.self.pass l.self.pass (g.I.Incoming.given l.initial.input)
+      (g.I.Incoming.given l.input) l.initial.feed l.feed None;
+  drained : (reading_of_ending l.feed).apdus ≡ [];
+  failed : g.I.Incoming.has_failed l.input ≡ g.I.Incoming.has_failed l.initial.input;
 }

@@ -1,13 +1,15 @@
-use Rattle.std.proofs.Common.{◌≡◌, ◌∙◌, ℕ, ◌+◌, ◌<◌, ◌∷◌, length, ap, sym, subst, arith}
+use Rattle.std.proofs.Common.{◌≡◌, ◌∙◌, ℕ, ◌+◌, ◌<◌, List, ◌∷◌, length, ap, sym, subst, rules, arith}
 use Rattle.std.specs.Prelude.{sum}
 use Rattle.gw_steps.specs.declared.step.Step.{Step}
 use Rattle.gw_steps.specs.Runs.{Entry}
-use Rattle.one_log.specs.Follows.{Whole}
+use Rattle.one_log.specs.Follows.{Known, Whole}
 use Rattle.gw_steps.specs.Steps.{Allowed}
 use Rattle.gw_record.specs.Recording.{Recording, Replays}
 use Rattle.gw_record.proofs.Replaying.{replays-push}
 use Rattle.gw_shared.proofs.Counting.{length-raised, sum-raised}
-use Rattle.gw_shared.specs.Reached.{entry}
+use Rattle.gw_shared.specs.Reached.{Deed, entry}
+use Rattle.gw_shared.specs.Roles.{KeepsRoles, MayMake}
+use Rattle.gw_shared.specs.Turn.{Pass}
 use Rattle.gw_shared.proofs.Reaching.{reached_then}
 use Rattle.gw_shared.proofs.locked.Core.make.Goals as goal
 
@@ -35,4 +37,28 @@ invariant_of-self g c =
       reached_then g.L.Course.setup old new c.self.inside.head.log c.add-made.new.self.log c.self.inside.made
           c.pass.inside.actor c.args.step c.step-reply.result kept.4 c.step-reply.ensures.step c.step-reply.ensures.sound c.attest.ensures
           c.step-reply.ensures.setup added,
+      subst (KeepsRoles g.L.Course.roles) (sym added) (
+        subst (λ (p : Pass). MayMake g.L.Course.roles p.actor c.args.step) (sym c.pass.view_is) c.requires.may,
+        kept.5,
+      ),
+    )
+
+pub invariant_of-pass : goal.invariant_of-pass
+invariant_of-pass g c =
+    let old = g.M.Machine.seen c.self.inside.machine in
+    let new = g.M.Machine.seen c.step-reply.new.self in
+    let known = ap (λ (k : Known Entry). k.log) c.add-made.ensures.seen in
+    let added =
+    ap (λ (w : Whole Entry). w.log) c.add-made.ensures.added
+    ∙ ap (λ (lane : ℕ). (lane, entry c.args.step c.step-reply.result) ∷ c.self.inside.head.log) c.pass.invariant.2 in (
+      search rules,
+      search rules,
+      search rules,
+      subst (KeepsRoles g.L.Course.roles) (sym (known ∙ added)) (
+        subst (λ (p : Pass). MayMake g.L.Course.roles p.actor c.args.step) (sym c.pass.view_is) c.requires.may,
+        c.self.invariant.5,
+      ),
+      (reached_then g.L.Course.setup old new c.self.inside.head.log _ c.self.inside.made
+          c.pass.inside.actor c.args.step c.step-reply.result c.self.invariant.4 c.step-reply.ensures.step
+          c.step-reply.ensures.sound c.attest.ensures c.step-reply.ensures.setup (known ∙ added)).course,
     )

@@ -1,7 +1,8 @@
-use Rattle.std.proofs.Common.{◌≡◌, length, rules, arith}
+use Rattle.std.proofs.Common.{◌≡◌, length, sym, subst, rules, arith}
 use Rattle.std.proofs.lemmas.Grind.{common_steps}
 use Rattle.std.specs.Prelude.{sum}
 use Rattle.gw_record.specs.Recording.{Replays}
+use Rattle.gw_shared.specs.Roles.{KeepsRoles}
 use Rattle.gw_shared.proofs.Reaching.{reached_first}
 use Rattle.gw_shared.proofs.locked.Core.new.Goals as goal
 
@@ -13,4 +14,5 @@ invariant_of-result g c =
     grind (arith, common_steps, c.in_ok-recorder.ensures.counts, c.requires.actors) in
     let none : sum recorder.counts ≡ 0 = grind (arith, common_steps, c.in_ok-recorder.ensures.counts) in
     let replays : Replays recorder.tape (g.M.Machine.seen c.args.machine) = search rules in
-    (counted, actors, none, replays, reached_first _ _ _ c.requires.first c.requires.head)
+    let kept = subst (KeepsRoles g.L.Course.roles) (sym c.requires.head) tt in
+    (counted, actors, none, replays, reached_first _ _ _ c.requires.first c.requires.head, kept)

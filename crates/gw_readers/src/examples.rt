@@ -1,0 +1,44 @@
+//! What is confirmed, and what is stepped, by an example.
+ghost use Rattle.std.specs.Prelude.{◌≡◌, ℕ, List, [], ◌∷◌, Ok, Err, Some, None, true, false};
+ghost use Rattle.dnp_app.specs.Response.{Fragment};
+ghost use Rattle.dnp_master.specs.declared.verdict.Verdict.TheVariants.{Accepted, Repeated};
+ghost use Rattle.iec_apci.specs.declared.apdu.Apdu.TheVariants as formats;
+ghost use Rattle.iec_apci.specs.Apdu.{Supervisory};
+ghost use Rattle.gw_steps.specs.declared.step.Step.TheVariants as steps;
+ghost use Rattle.gw_steps.specs.declared.step.Reply.TheVariants as replies;
+ghost use Rattle.gw_steps.specs.declared.step.StepFault.TheVariants as faults;
+ghost use Rattle.gw_ends.specs.declared.sent.Sent.TheVariants as sents;
+ghost use Rattle.gw_ends.specs.declared.worker_end.WorkerEnd.TheVariants as ends;
+ghost use Rattle.gw_threads.specs.Calls.{given_by};
+ghost use Rattle.gw_readers.specs.Confirms.{confirmation_given, confirmations_sent};
+ghost use Rattle.gw_readers.specs.Frames.{apdu_in};
+ghost use Rattle.gw_readers.specs.Heard.{IsSaid, response_in};
+
+/// A fragment that asks for a confirmation, one that doesn't, and the first one once more; what is sent for them, with a
+/// reply of the link. A client's S format is stepped.
+pub fn confirmed_and_stepped()
+    ensures given { (f g : Fragment) (a : List ℕ) → given_by confirmation_given
+        (record { step = steps.Fragment f 1; number = 1; reply = Ok (replies.Verdict (Accepted (Some a) false None)) }
+        ∷ record { step = steps.Fragment g 2; number = 2; reply = Ok (replies.Verdict (Accepted None true None)) }
+        ∷ record { step = steps.Fragment f 3; number = 5; reply = Ok (replies.Verdict (Repeated (Some a))) } ∷ [])
+        ≡ a ∷ a ∷ [] }
+    ensures sent { (a frame : List ℕ) → confirmations_sent (record { what = sents.Confirm a; whole = true }
+        ∷ record { what = sents.Reply frame; whole = true } ∷ record { what = sents.Confirm a; whole = false } ∷ [])
+        ≡ a ∷ a ∷ [] }
+    ensures stepped { given_by apdu_in (record { step = steps.Frame 0 (formats.S 4) 1; number = 1; reply = Ok replies.Taken } ∷ [])
+        ≡ Supervisory 4 ∷ [] }
+{}
+
+/// Of three fragments the last wasn't counted, so two were heard, whatever the core said of them. Where the reader is to stop
+/// one may be left, and where its octets end none.
+#[tactic(auto, using(crate::proofs::Worked::one_left, crate::proofs::Worked::none_left))]
+pub fn heard_and_left()
+    ensures heard { (f g h : Fragment) → given_by response_in
+        (record { step = steps.Fragment f 1; number = 1; reply = Ok (replies.Verdict (Repeated None)) }
+        ∷ record { step = steps.Fragment g 2; number = 2; reply = Err faults.NotUp }
+        ∷ record { step = steps.Fragment h 3; number = 3; reply = Err faults.Spent }
+        ∷ record { step = steps.OutstationDown 0 4; number = 4; reply = Ok replies.Done } ∷ [])
+        ≡ f ∷ g ∷ [] }
+    ensures stopping { (f g h : Fragment) → IsSaid (f ∷ g ∷ h ∷ []) (f ∷ g ∷ []) (Some ends.Stopping) }
+    ensures ended { (f g h : Fragment) → IsSaid (f ∷ g ∷ h ∷ []) (f ∷ g ∷ []) (Some ends.EndOfInput) → ⊥ }
+{}

@@ -1,0 +1,22 @@
+//! What calls gave, by an example.
+ghost use Rattle.std.specs.Prelude.{◌≡◌, [], ◌∷◌, Ok};
+ghost use Rattle.iec_apci.specs.declared.buffer.ApduBuf.{ApduBuf};
+ghost use Rattle.dnp_app.specs.declared.request.Request.{Request};
+ghost use Rattle.gw_steps.specs.declared.step.Step.TheVariants as steps;
+ghost use Rattle.gw_steps.specs.declared.step.Reply.TheVariants as replies;
+ghost use Rattle.gw_shared.specs.Reached.{entry};
+ghost use Rattle.gw_threads.specs.Calls.{all_given, given_by};
+ghost use Rattle.gw_threads.specs.Sends.{is_poll, request_given};
+ghost use Rattle.gw_threads.specs.Written.{apdu_given, is_pump};
+
+/// Of two pumps for client 0 each gave an APDU, and one for client 1 between them gave another; the history has the newest
+/// first. A poll of outstation 2 gave a request, and one of outstation 1 none.
+pub fn given_in_a_history()
+    ensures client_0 { (a b c : ApduBuf) → all_given (is_pump 0) apdu_given
+        (entry (steps.Pump 0 9) (Ok (replies.Apdu c)) ∷ entry (steps.Pump 1 8) (Ok (replies.Apdu b))
+        ∷ entry (steps.Pump 0 7) (Ok (replies.Apdu a)) ∷ []) ≡ a ∷ c ∷ [] }
+    ensures outstations { (r : Request) → all_given (is_poll 2) request_given
+        (entry (steps.Poll 1 9 0) (Ok replies.Nothing) ∷ entry (steps.Poll 2 8 0) (Ok (replies.Request r)) ∷ []) ≡ r ∷ [] }
+    ensures calls { (a b : ApduBuf) → given_by apdu_given (record { step = steps.Pump 0 7; number = 1; reply = Ok (replies.Apdu a) }
+        ∷ record { step = steps.ClientDown 0 8; number = 2; reply = Ok replies.Done } ∷ []) ≡ a ∷ [] }
+{}
