@@ -1,6 +1,6 @@
 //! What may stand at each key of a settings file, in words.
 
-use gw_map::{Absence, Key, KeyContent, OUTSTATIONS, ROWS, Section, keys_of};
+use gw_profile::{Absence, Key, KeyContent, OUTSTATIONS, ROWS, Section, keys_of};
 use std::fmt;
 use std::io::{self, Write};
 

@@ -1,10 +1,8 @@
-//! `gateway check`: what a settings file means, or what is wrong with it, and what reads like a slip; the
-//! interoperability list and the signals of its station.
+//! `gateway check`: what a settings file means, or what is wrong with it, and what reads like a slip.
 #![tactic(auto)]
 
 mod allowed;
-mod listing;
-mod profile;
+mod packing;
 mod reading;
 mod report;
 mod sentence;

@@ -1,7 +1,6 @@
 //! What the octets of a settings file mean.
 
-use gw_map::{Fault, KeyPlace, Settings, SettingsFault};
-use gw_text::Plain;
+use gw_profile::{Fault, KeyPlace, Plain, Settings, SettingsFault};
 use std::alloc::Global;
 use std::{fmt, str};
 use thiserror::Error;

@@ -1,8 +1,6 @@
 //! What `gateway check` writes of settings.
 
-use crate::listing::write_listing;
-use crate::profile::write_profile;
-use gw_map::Settings;
+use gw_profile::{Settings, write_listing, write_profile};
 use std::io::{self, Write};
 
 /// What is written of settings that are accepted.

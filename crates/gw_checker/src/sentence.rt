@@ -2,8 +2,7 @@
 
 use crate::allowed::write_allowed;
 use crate::reading::{Unusable, read_settings};
-use gw_map::{Fault, KeyPlace, Section, SettingsFault};
-use gw_text::Plain;
+use gw_profile::{Fault, KeyPlace, Plain, Section, SettingsFault};
 use std::alloc::Global;
 use std::io::{self, Write};
 use std::str;

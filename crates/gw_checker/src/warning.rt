@@ -1,6 +1,6 @@
 //! What reads like a slip in settings that are accepted, in a sentence for a person.
 
-use gw_text::Plain;
+use gw_profile::Plain;
 use std::fmt;
 
 /// Something in accepted settings that reads like a slip. Outstations and controls go by their positions in the file.
@@ -47,12 +47,40 @@ pub enum Warning<'a> {
         /// The other, behind it.
         second: u8,
     },
+    /// Two outstations have the same address of connection and different link addresses: no other that has it stands
+    /// between them.
+    SharedConnect {
+        /// The one.
+        first: u8,
+        /// The other, behind it.
+        second: u8,
+        /// The address of connection.
+        connect: &'a str,
+    },
     /// Events of an outstation come late: it is asked for them more than a minute apart, and may not send them unasked.
     SlowPoll {
         /// The outstation.
         outstation: u8,
         /// From one poll to the next, in milliseconds.
         poll_ms: u64,
+    },
+    /// A response is awaited for less time than a fragment of one takes on a slow line, of an outstation with many points.
+    ShortResponse {
+        /// The outstation.
+        outstation: u8,
+        /// How long a response is awaited, in milliseconds.
+        response_ms: u64,
+        /// How many points it has.
+        points: usize,
+    },
+    /// An outstation's points take far more I formats in the order of the file than sorted.
+    UnsortedPoints {
+        /// The outstation.
+        outstation: u8,
+        /// How many they take in the order of the file, where all are told one behind the other without time.
+        as_listed: usize,
+        /// How many they would take sorted by type and address.
+        sorted: usize,
     },
     /// Two controls operate the same output of an outstation.
     SameOutput {
@@ -86,7 +114,13 @@ impl<'a> Warning<'a> {
             | Warning::OddSummer { .. } => f.write_str("station"),
             Warning::ConnectWithoutPort { outstation, .. }
             | Warning::SlowPoll { outstation, .. }
+            | Warning::ShortResponse { outstation, .. }
+            | Warning::UnsortedPoints { outstation, .. }
             | Warning::SamePlace {
+                second: outstation,
+                ..
+            }
+            | Warning::SharedConnect {
                 second: outstation,
                 ..
             } => write_numbered(f, "outstation", usize::from(*outstation)),
@@ -106,7 +140,18 @@ impl<'a> Warning<'a> {
                 f, "connect", connect,
             ),
             Warning::SamePlace { first, .. } => write_same_place(f, first),
+            Warning::SharedConnect { first, connect, .. } => write_shared(f, first, connect),
             Warning::SlowPoll { poll_ms, .. } => write_slow_poll(f, poll_ms),
+            Warning::ShortResponse {
+                response_ms,
+                points,
+                ..
+            } => write_short_response(f, response_ms, points),
+            Warning::UnsortedPoints {
+                outstation,
+                as_listed,
+                sorted,
+            } => write_unsorted(f, outstation, as_listed, sorted),
             Warning::SameOutput {
                 first,
                 outstation,
@@ -144,11 +189,45 @@ fn write_same_place<W: fmt::Write>(f: &mut fmt::Formatter<W>, first: u8) -> fmt:
     write!(f, "address and connect are those of outstation {first}")
 }
 
+/// Writes which other outstation is reached at the same address of connection.
+fn write_shared<W: fmt::Write>(f: &mut fmt::Formatter<W>, first: u8, connect: &str) -> fmt::Result {
+    let connect = Plain(connect);
+    write!(
+        f,
+        "connect = \"{connect}\" is that of outstation {first} too: each has a connection of its own, and on one bus their answers collide"
+    )
+}
+
 /// Writes how seldom an outstation is polled.
 fn write_slow_poll<W: fmt::Write>(f: &mut fmt::Formatter<W>, poll_ms: u64) -> fmt::Result {
     write!(
         f,
         "poll_ms = {poll_ms} is above 60000 while unsolicited is false"
+    )
+}
+
+/// Writes for how short a time a response of many points is awaited.
+fn write_short_response<W: fmt::Write>(
+    f: &mut fmt::Formatter<W>,
+    response_ms: u64,
+    points: usize,
+) -> fmt::Result {
+    write!(
+        f,
+        "response_ms = {response_ms} is below 2000 with {points} points: a fragment of their values may take longer on a slow line"
+    )
+}
+
+/// Writes how many I formats points take as they are listed, and how many sorted.
+fn write_unsorted<W: fmt::Write>(
+    f: &mut fmt::Formatter<W>,
+    outstation: u8,
+    as_listed: usize,
+    sorted: usize,
+) -> fmt::Result {
+    write!(
+        f,
+        "its points take {as_listed} I formats as they stand, and {sorted} sorted: sort the points of outstation {outstation} by type and address"
     )
 }
 

@@ -1,8 +1,8 @@
 //! Looking for what reads like a slip in settings that are accepted.
 
+use crate::packing::{PointPlace, count_asdus};
 use crate::warning::Warning;
-use gw_map::{Control, Operates, Outstation, Settings, Station};
-use gw_model::{ClockRule, Poll};
+use gw_profile::{ClockRule, Control, Operates, Outstation, Poll, Row, Settings, Station};
 use indexmap::IndexMap;
 use std::alloc::{AllocError, Global};
 use std::io::{self, Write};
@@ -10,6 +10,16 @@ use std::net::SocketAddr;
 
 /// The longest from one poll for events to the next that is usual without unsolicited responses, in milliseconds.
 const LONGEST_POLL_MS: u64 = 60_000;
+
+/// With more points than this an answer to an integrity poll is taken to fill a fragment.
+const MANY_POINTS: usize = 500;
+
+/// How long such a fragment may take on a slow line, in milliseconds: 2,048 octets take two seconds and more at 9,600 bits
+/// a second.
+const FRAGMENT_MS: u64 = 2000;
+
+/// How many I formats sorting has to save to be worth it.
+const LEAST_SAVED: usize = 10;
 
 /// An output of an outstation. Its binary and its analog outputs are counted apart (IEEE Std 1815, groups 12 and 41).
 #[derive(Clone, Copy, PartialEq, Eq, Hash)]
@@ -37,7 +47,7 @@ pub fn warnings_of<'a>(
 ) -> Result<Vec<Warning<'a>>, AllocError> {
     let mut found = Vec::new(alloc);
     add_of_station(&mut found, settings)?;
-    add_of_outstations(&mut found, settings.outstations())?;
+    add_of_outstations(alloc, &mut found, settings)?;
     add_of_controls(alloc, &mut found, settings.controls())?;
     Ok(found)
 }
@@ -112,15 +122,30 @@ fn seconds_ahead(rule: ClockRule) -> (i32, i32) {
 }
 
 fn add_of_outstations<'a>(
+    alloc: Global,
     found: &mut Vec<Warning<'a>>,
-    outstations: &'a [Outstation],
+    settings: &'a Settings,
 ) -> Result<(), AllocError> {
-    for (position, outstation) in (0u8..).zip(outstations) {
-        add_of_connection(found, position, outstation)?;
-        add_of_place(found, outstations, position, outstation)?;
-        add_of_poll(found, position, outstation.poll)?;
+    for (position, outstation) in (0u8..).zip(settings.outstations()) {
+        add_of_outstation(alloc, found, settings, position, outstation)?;
     }
     Ok(())
+}
+
+/// Adds what reads like a slip in an outstation at a position.
+fn add_of_outstation<'a>(
+    alloc: Global,
+    found: &mut Vec<Warning<'a>>,
+    settings: &'a Settings,
+    position: u8,
+    outstation: &'a Outstation,
+) -> Result<(), AllocError> {
+    let outstations = settings.outstations();
+    add_of_connection(found, position, outstation)?;
+    add_of_place(found, outstations, position, outstation)?;
+    add_of_bus(found, outstations, position, outstation)?;
+    add_of_poll(found, position, outstation.poll)?;
+    add_of_points(alloc, found, position, outstation.poll, settings.rows())
 }
 
 /// Adds that the address of an outstation has no port.
@@ -155,6 +180,27 @@ fn add_of_place(
     }
 }
 
+/// Adds that the nearest outstation in front with the same address of connection has another link address.
+fn add_of_bus<'a>(
+    found: &mut Vec<Warning<'a>>,
+    outstations: &[Outstation],
+    second: u8,
+    settings: &'a Outstation,
+) -> Result<(), AllocError> {
+    let connect = settings.connect.as_str();
+    match last_reached_at(outstations, second, connect) {
+        Some((first, address)) if address != settings.address => add(
+            found,
+            Warning::SharedConnect {
+                first,
+                second,
+                connect,
+            },
+        ),
+        _ => Ok(()),
+    }
+}
+
 /// Adds that an outstation is asked for events too seldom.
 fn add_of_poll(found: &mut Vec<Warning>, outstation: u8, poll: Poll) -> Result<(), AllocError> {
     let poll_ms = poll.poll_ms;
@@ -169,6 +215,77 @@ fn add_of_poll(found: &mut Vec<Warning>, outstation: u8, poll: Poll) -> Result<(
     } else {
         Ok(())
     }
+}
+
+/// Adds what reads like a slip in view of an outstation's points: how many they are, and how they are ordered.
+fn add_of_points(
+    alloc: Global,
+    found: &mut Vec<Warning>,
+    outstation: u8,
+    poll: Poll,
+    rows: &[Row],
+) -> Result<(), AllocError> {
+    let points = points_of(alloc, outstation, rows)?;
+    add_of_response(found, outstation, poll.response_ms, points.len())?;
+    add_of_order(found, outstation, points)
+}
+
+/// Adds that a response of an outstation with many points is awaited for too short a time.
+fn add_of_response(
+    found: &mut Vec<Warning>,
+    outstation: u8,
+    response_ms: u64,
+    points: usize,
+) -> Result<(), AllocError> {
+    if points > MANY_POINTS && response_ms < FRAGMENT_MS {
+        add(
+            found,
+            Warning::ShortResponse {
+                outstation,
+                response_ms,
+                points,
+            },
+        )
+    } else {
+        Ok(())
+    }
+}
+
+/// Adds that the points of an outstation would take less than half as many I formats, and ten fewer at least, if they were
+/// sorted.
+fn add_of_order(
+    found: &mut Vec<Warning>,
+    outstation: u8,
+    mut points: Vec<PointPlace>,
+) -> Result<(), AllocError> {
+    let as_listed = count_asdus(&points);
+    points.sort_unstable_by_key(|point| point.rank());
+    let sorted = count_asdus(&points);
+    let saved = as_listed.saturating_sub(sorted);
+    // More than half is saved where more is saved than is left.
+    if saved > sorted && saved >= LEAST_SAVED {
+        add(
+            found,
+            Warning::UnsortedPoints {
+                outstation,
+                as_listed,
+                sorted,
+            },
+        )
+    } else {
+        Ok(())
+    }
+}
+
+/// The points of an outstation, in the order of the file.
+fn points_of(alloc: Global, outstation: u8, rows: &[Row]) -> Result<Vec<PointPlace>, AllocError> {
+    let mut points = Vec::new(alloc);
+    for row in rows {
+        if row.key.outstation == outstation {
+            points.push(PointPlace::of(row))?;
+        }
+    }
+    Ok(points)
 }
 
 fn add_of_controls(
@@ -209,6 +326,17 @@ fn first_like(outstations: &[Outstation], outstation: &Outstation) -> Option<u8>
         other.address == outstation.address && other.connect.as_str() == outstation.connect.as_str()
     })?;
     u8::try_from(position).ok()
+}
+
+/// The last outstation in front of a position that has this address of connection, and its link address.
+fn last_reached_at(outstations: &[Outstation], end: u8, connect: &str) -> Option<(u8, u16)> {
+    let mut last = None;
+    for (position, outstation) in (0..end).zip(outstations) {
+        if outstation.connect.as_str() == connect {
+            last = Some((position, outstation.address));
+        }
+    }
+    last
 }
 
 /// Whether a place ends with a colon and the number of a port. The address of IPv6 in front of it stands in brackets.

@@ -1,7 +1,7 @@
 //! The signals of the station: its outstations, and a line for each point and each control.
 
 use crate::listing::mode_word;
-use crate::profile::types::{PointTypes, command_type, point_types};
+use crate::types::{PointTypes, command_type, point_types};
 use gw_map::{Control, Operates, Outstation, Pulses, Rest, Row, Scale, Settings, Show};
 use gw_model::{Kind, PointKey};
 use gw_text::Plain;

@@ -5,7 +5,7 @@ use gw_model::Kind;
 use std::io::{self, Write};
 
 /// Writes a line for each point and each control, in the order of the file, and how many there are.
-pub(crate) fn write_listing<W: Write>(settings: &Settings, writer: &mut W) -> io::Result<()> {
+pub fn write_listing<W: Write>(settings: &Settings, writer: &mut W) -> io::Result<()> {
     for row in settings.rows() {
         write_row(row, writer)?;
     }

@@ -1,7 +1,7 @@
 //! The interoperability list of IEC 60870-5-104, clause 9, in its order: `[x]` is used, `[ ]` isn't.
 
-use crate::profile::commands::{write_command_transmission, write_command_types};
-use crate::profile::types::point_types;
+use crate::commands::{write_command_transmission, write_command_types};
+use crate::types::point_types;
 use gw_map::{Row, Settings, Show, Station};
 use gw_text::Plain;
 use jiff::tz::TimeZone;
