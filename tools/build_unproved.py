@@ -1,5 +1,5 @@
 #!/usr/bin/env -S python3 -B
-"""Builds the program without any proof, into out/unproved/gateway, in one to two minutes.
+"""Builds the program without any proof, into out/unproved/gateway, in one to three minutes.
 
 The toolchain's `rt try` builds and runs a program without proof, and keeps no file of it. So the program is given a named pipe
 as its settings: opening that for writing returns once the program is built and reads; it waits there until it is copied, then
@@ -19,6 +19,8 @@ from building import NO_PROGRAM, ROOT, UNPROVED, Line, alone, install, is_fresh,
 
 # How many seconds it takes on an idle processor, where it isn't known of an earlier build.
 USUAL = 85
+# Which part of it goes by before compiling begins.
+READING = 0.6
 LOG = UNPROVED.parent / "log"
 TOOK = UNPROVED.parent / "seconds"
 
@@ -64,15 +66,16 @@ def is_compiling(room):
 
 def wait_for_program(process, room, pipe):
     """Shows how far it is; gives the pipe for writing once the program reads it, or nothing where the build ends before."""
-    line, begun, compiles = Line(), time.monotonic(), False
+    line, begun, about, does = Line(), time.monotonic(), usual_seconds(), "reading the sources"
     try:
         while process.poll() is None:
             writer = opened(pipe)
             if writer is not None:
                 return writer
-            compiles = compiles or is_compiling(room)
-            does = "compiling" if compiles else "reading the sources"
-            line.show(f"building without proof, about {usual_seconds()} s: {does}", f", {time.monotonic() - begun:.0f} s")
+            passed = time.monotonic() - begun
+            if does != "compiling" and is_compiling(room):
+                about, does = round(passed / READING), "compiling"
+            line.show(f"building without proof, about {about} s: {does}", f", {passed:.0f} s")
             time.sleep(0.25)
         return None
     finally:

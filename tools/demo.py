@@ -33,7 +33,8 @@ def tell(origin, text):
     mark = f"{origin:10} |"
     if sys.stdout.isatty() and "NO_COLOR" not in os.environ:
         mark = f"\033[{COLOURS[origin]}m{mark}\033[0m"
-    print(f"{mark} {text}", flush=True)
+    # In one piece, for each process is followed by a thread of its own.
+    print(f"{mark} {text}\n", end="", flush=True)
 
 
 def free_places(count):

@@ -20,8 +20,8 @@ from building import PROVED, ROOT, UNPROVED, is_fresh, run_builder
 LOGS = ROOT / "out/test"
 # The crates of tests; those that take longest come first.
 CRATES = ("thread_tests", "program_tests", "fault_tests", "layer_tests")
-# How many seconds one may take, and how many lines of one that failed are shown.
-LIMIT, SHOWN = 900, 40
+# How many seconds one may take, one test of a crate may, and how many lines of one that failed are shown.
+LIMIT, TEST_LIMIT, SHOWN = 900, 400, 40
 # For a program without proof, whose addresses are checked as it runs (see `gateway`).
 CHECKS = "detect_stack_use_after_return=0:quarantine_size_mb=8:thread_local_quarantine_size_kb=64"
 
@@ -75,7 +75,8 @@ def scripts(program, is_proved):
 
 def tests():
     """The tests of the crates, without proof."""
-    return [Part(it, ["rt", "try", "--test", "--steps", "1"], ROOT / "crates" / it) for it in CRATES]
+    environment = {"RT_SECONDS": str(TEST_LIMIT)}
+    return [Part(it, ["rt", "try", "--test", "--steps", "1"], ROOT / "crates" / it, environment) for it in CRATES]
 
 
 class Tally:
