@@ -1,18 +1,10 @@
-//! Tests of the readers: why they end where a client's octets are wrong, a read fails, or a step can't be counted.
+//! Tests of the readers: why they end where a client's octets are wrong, or a read fails.
 
-ghost use Rattle.test_tools.specs.Opening.{IsFor};
-
-use crate::checks::same;
 use crate::reading::{Input, read_client_on, read_outstation_on};
 use gw_map::DEFAULT_SETTINGS;
 use iec_apci::ApciFault;
 use std::marker::Brand;
-use std::process::Abort;
-use std::sync::Wait;
-use test_tools::{
-    Course, FROM_CLIENT, OpenGate, Opening, SOURCES, Sent, Spent, TWO_OUTSTATIONS, TestCore, Why,
-    WorkerEnd, read_client,
-};
+use test_tools::{FROM_CLIENT, Opening, SOURCES, TWO_OUTSTATIONS, Why, WorkerEnd};
 
 /// An interrogation, which is an I format.
 const I_FORMAT: &[u8] = &[
@@ -33,32 +25,6 @@ fn reading_ends(rt: HostRuntime) {
         let found = read_client_on::<Brand, _>(&rt, opening, Input::whole(octets));
         assert!(&rt; found == (*end, 2));
     }
-}
-
-/// STARTDT act.
-const START: &[u8] = &[0x68, 0x04, 0x07, 0x00, 0x00, 0x00];
-
-/// A call that can't be counted ends the connection.
-#[test]
-fn spent_ends(rt: HostRuntime) {
-    let opening = Opening::of(rt.alloc(), 1, DEFAULT_SETTINGS).expect(&rt, "an opening");
-    read_uncounted::<Brand, _>(&rt, opening);
-}
-
-/// A client starts on a core that can't count further calls.
-fn read_uncounted<L: Course, R: Wait + Abort + AllocGlobal>(rt: &R, opening: Opening)
-    requires { IsFor L.name L.parts L.book L.setup L.roles 1 opening }
-{
-    let mut core = TestCore::<L>::new(rt.alloc(), opening, 1, 64).expect(rt, "a core");
-    let pass = core.passes.pop().expect(rt, "a pass");
-    let mut input = Sent { rest: START };
-    let spent = Spent {
-        shared: &core.shared,
-    };
-    let (pass, end) = read_client(rt, &spent, pass, 0, &mut input, &OpenGate);
-    assert!(rt; end == WorkerEnd::Stopping);
-    core.passes.push(pass).expect(rt, "memory");
-    same(rt, &core.total(rt).expect(rt, "all passes"), &0);
 }
 
 /// Behind a client's coming up, the calls that are made of so many reads before the next one fails, and the loss: the first

@@ -51,6 +51,10 @@ pub record IsNoted (hub : Hub) (old new : Recording) (actor : ℕ) (step : Step)
 abbrev pub pass_behind : Pass → List Deed → Pass
 pass_behind mine seen = record { actor = mine.actor; made = mine.made + 1; seen = seen }
 
+-- a pass that has seen this history, and has made no call more
+abbrev pub pass_at : Pass → List Deed → Pass
+pass_at mine seen = record { actor = mine.actor; made = mine.made; seen = seen }
+
 -- one call: the step that was asked was made on a sound state, and answered as the step relation allows; call, reply
 -- and actor were noted; the call was counted under the lock and on the pass; its number is the count, which no earlier
 -- call of the pass had. The history goes on by the call, and the pass knows it then; it had known a beginning of it, behind
@@ -69,10 +73,14 @@ pub record IsTurn (setup : Setup) (old new : Core) (mine after : Pass) (step : S
   pub reached : IsReached setup new.hub new.past new.made
   pub pass : after ≡ pass_behind mine new.past
 
--- no further call can be counted: none was made
-pub record IsLast (old new : Core) (mine after : Pass) (number : ℕ) (reply : Result Reply StepFault) : Type 0 where
+-- no further call can be counted: none was made. The pass knows the whole history then; it had known a beginning of it, behind
+-- which its actor made no other call
+pub record IsLast (setup : Setup) (old new : Core) (mine after : Pass) (number : ℕ) (reply : Result Reply StepFault)
+    : Type 0 where
   pub same : new ≡ old
-  pub pass : after ≡ mine
+  pub follows : Follows mine.actor mine.seen old.past
+  pub reached : IsReached setup old.hub old.past old.made
+  pub pass : after ≡ pass_at mine old.past
   pub number_is : number ≡ last_call
   pub refused : reply ≡ Err Spent
 
@@ -80,7 +88,7 @@ pub record IsLast (old new : Core) (mine after : Pass) (number : ℕ) (reply : R
 abbrev pub Steps : Setup → Core → Core → Pass → Pass → Step → ℕ × Result Reply StepFault → Type 0
 Steps setup old new mine after step answer =
     (old.made < last_call → IsTurn setup old new mine after step answer.0 answer.1)
-    × (old.made ≡ last_call → IsLast old new mine after answer.0 answer.1)
+    × (old.made ≡ last_call → IsLast setup old new mine after answer.0 answer.1)
 
 -- what a caller of the lock knows of a call that was made: in the one history it comes behind so many others as its number
 -- says, with its step and its reply; that history is a run from the first state. The caller had seen a beginning of it,
@@ -95,12 +103,17 @@ pub record IsAnswered (setup : Setup) (mine after : Pass) (step : Step) (number 
   pub above : mine.made < number
   pub pass : after ≡ pass_behind mine ((mine.actor, entry step reply) ∷ before)
 
--- the call was refused, since no further one can be counted
-pub record IsRefused (mine after : Pass) (number : ℕ) (reply : Result Reply StepFault) : Type 0 where
-  pub pass : after ≡ mine
+-- the call was refused, since no further one can be counted: the one history has as many calls as ever can be. The caller had
+-- seen a beginning of it, behind which its actor made no other call, and knows the whole of it then
+pub record IsRefused (setup : Setup) (mine after : Pass) (number : ℕ) (reply : Result Reply StepFault) : Type 0 where
+  pub whole : List Deed
+  pub follows : Follows mine.actor mine.seen whole
+  pub course : IsCourse setup (entries_of whole)
+  pub count : length whole ≡ last_call
+  pub pass : after ≡ pass_at mine whole
   pub number_is : number ≡ last_call
   pub refused : reply ≡ Err Spent
 
 abbrev pub Answers : Setup → Pass → Pass → Step → ℕ × Result Reply StepFault → Type 0
 Answers setup mine after step answer =
-    IsAnswered setup mine after step answer.0 answer.1 ⊎ IsRefused mine after answer.0 answer.1
+    IsAnswered setup mine after step answer.0 answer.1 ⊎ IsRefused setup mine after answer.0 answer.1

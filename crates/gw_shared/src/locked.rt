@@ -9,7 +9,7 @@ ghost use Rattle.one_log.specs.Follows.{Follows};
 ghost use Rattle.gw_shared.specs.Reached.{entry, IsFirst, IsReached};
 ghost use Rattle.gw_shared.specs.Roles.{MayMake};
 ghost use Rattle.gw_shared.specs.Pumping.{GoesOn, IsPumpedNext, IsPumpedRun, MayGoOn};
-ghost use Rattle.gw_shared.specs.Turn.{last_call, pass_behind, Answers, IsMadeReady, Steps};
+ghost use Rattle.gw_shared.specs.Turn.{last_call, pass_at, pass_behind, Answers, IsMadeReady, Steps};
 
 use crate::course::{Course, Made};
 use crate::pass::Pass;
@@ -111,13 +111,15 @@ impl<L: Course, M: Machine> Core<L, M> {
     }
 
     /// Makes a call: the step is made on the machine and noted with its reply. Gives the call's number, counted over
-    /// all passes from 1. Where no further call can be counted nothing is made, and the answer is `Spent`.
+    /// all passes from 1. Where no further call can be counted nothing is made, the answer is `Spent`, and the pass sees all
+    /// calls that were made.
     pub fn step(&mut self, pass: &mut Pass<L>, step: Step) -> (u64, Result<Reply, StepFault>)
         requires may { MayMake L.roles pass.old.actor step }
         ensures step { Steps L.setup self.old self.new pass.old pass.new step result }
         ensures counted { self.old.made ≤ last_call }
     {
         if self.made == u64::MAX {
+            self.show(pass);
             return (u64::MAX, Err(StepFault::Spent));
         }
         self.make_ready();
@@ -125,6 +127,16 @@ impl<L: Course, M: Machine> Core<L, M> {
         let answer = self.make(pass, step);
         self.note_dropped(before);
         answer
+    }
+
+    /// Lets a pass see all calls that were made.
+    fn show(&mut self, pass: &mut Pass<L>)
+        ensures same { self.new ≡ self.old }
+        ensures follows { Follows pass.old.actor pass.old.seen self.old.past }
+        ensures reached { IsReached L.setup self.old.hub self.old.past self.old.made }
+        ensures pass { pass.new ≡ pass_at pass.old self.old.past }
+    {
+        self.head.show(&mut pass.front);
     }
 
     /// What is to be watched before a step is made.

@@ -3,7 +3,7 @@ use Rattle.std.proofs.Common.{◌≡◌, inl, inr, ℕ, List, [], ◌∷◌, ◌
 use Rattle.std.specs.Prelude.{reverse}
 use Rattle.std.proofs.lemmas.List.{reverse-append}
 use Rattle.one_log.specs.Follows.{Known, of_lane}
-use Rattle.one_log.proofs.Lanes.{of_lane_added}
+use Rattle.one_log.proofs.Lanes.{of_lane_added, same_of_lane}
 use Rattle.gw_map.specs.Settings.{Setup}
 use Rattle.gw_steps.specs.Runs.{Entry}
 use Rattle.gw_shared.specs.Reached.{entry}
@@ -38,7 +38,10 @@ calls_stand setup mine after (c ∷ calls) made =
       | inr refused ↦ record {
         entries = more.entries;
         stand = (more.entries, (more.stand, inr (refused.refused, refl)));
-        all = rest ∙ ap (λ (p : Pass). more.entries ++ of_lane mine.actor p.seen) refused.pass;
+        all =
+            rest
+            ∙ (ap (λ (p : Pass). more.entries ++ of_lane mine.actor p.seen) refused.pass
+            ∙ ap (λ (l : List Entry). more.entries ++ l) (same_of_lane mine.actor mine.seen refused.whole refused.follows));
       }
     ]
 

@@ -6,8 +6,7 @@ use Rattle.std.proofs.lemmas.Bool.{eq-eqb, true≢false}
 use mathlib.Core.List.{IsPrefix}
 use prog.Atomic.{either}
 use Rattle.logbook.specs.Pages.{Cell, cell, adds, gives, Nib, no_nib, may_write, step, Moves, Goes}
-use Rattle.one_log.specs.Rules.{IsKept, IsKeptPast, Adds, Reserves, entries_in, head_keys, lanes_in, lane_keys, older}
-use Rattle.one_log.specs.Follows.{of_lane}
+use Rattle.one_log.specs.Rules.{IsKept, IsKeptPast, Adds, Reserves, head_keys, lanes_in, lane_keys, older, visits}
 use Rattle.one_log.specs.declared.link.Link.{Link}
 use Rattle.one_log.proofs.Cells.{IsHome, Still, append_home, set_here, set_home, still_home}
 use Rattle.one_log.proofs.Keeping.{still_kept}
@@ -40,7 +39,7 @@ still_past : {E : Type 0} (cs new : List Cell) → Still cs new → (past : List
     → IsKeptPast new past
 still_past cs new still past kept = record {
   home = still_home cs new still (older (head_keys past)) kept.home;
-  lanes = λ lane. still_kept cs new still (lanes_in past) lane (lane_keys lane past) (of_lane lane (entries_in past))
+  lanes = λ lane. still_kept cs new still (lanes_in past) lane (lane_keys lane past) (visits lane past)
       (kept.lanes lane);
 }
 

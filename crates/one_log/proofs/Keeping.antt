@@ -1,27 +1,23 @@
 -- Each kind of link keeps the rule of lanes and of the end, once the cell has come home that it had to.
-use Rattle.std.proofs.Common.{◌≡◌, ℕ, suc, ◌<◌, ◌≤◌, ◌==◌, Bool, true, false, cond, List, [], ◌∷◌, length, Some, None, refl, ap, sym, subst, arith}
+use Rattle.std.proofs.Common.{◌≡◌, ℕ, suc, ◌<◌, ◌≤◌, ◌==◌, Bool, true, false, cond, List, [], ◌∷◌, length, Option, Some, None, refl, ap, sym, subst, arith}
 use Rattle.std.specs.List.{cons_option}
 use Rattle.std.proofs.lemmas.Bool.{eqb-true}
 use Rattle.logbook.specs.Pages.{Cell}
-use Rattle.one_log.specs.Follows.{of_lane}
-use Rattle.one_log.specs.Rules.{AreHome, IsKeptLane, IsKeptPast, entries_in, head_keys, lane_keys, lanes_in, newest, older}
+use Rattle.one_log.specs.Rules.{AreHome, IsKeptLane, IsKeptPast, head_keys, lane_keys, lanes_in, newest, older, visits}
 use Rattle.one_log.specs.declared.link.Link.{Link}
-use Rattle.one_log.specs.declared.link.Link.TheVariants.{Begun, Turn, Added}
+use Rattle.one_log.specs.declared.link.Link.TheVariants.{Begun, Turn, Visited}
 use Rattle.one_log.proofs.Cells.{IsHome, Still, all_home, still_home}
 
 older_length : (keys : List ℕ) → length (older keys) ≤ length keys
 older_length [] = omega arith
 older_length (key ∷ keys) = omega arith
 
-pub still_kept : {E : Type 0} (cs new : List Cell) → Still cs new → (lanes lane : ℕ) (keys : List ℕ) (mine : List E)
-    → IsKeptLane cs lanes lane keys mine → IsKeptLane new lanes lane keys mine
-still_kept cs new still lanes lane keys mine kept =
+pub still_kept : (cs new : List Cell) → Still cs new → (lanes lane : ℕ) (keys visited : List ℕ)
+    → IsKeptLane cs lanes lane keys visited → IsKeptLane new lanes lane keys visited
+still_kept cs new still lanes lane keys visited kept =
     record { home = still_home cs new still (older keys) kept.home; turns = kept.turns; begun = kept.begun }
 
 module _ {E : Type 0} (cs new : List Cell) (still : Still cs new) (past : List (Link E)) (kept : IsKeptPast cs past) where
-  abbrev mine : ℕ → List E
-  mine lane = of_lane lane (entries_in past)
-
   -- a turn, once the newest cell of its lane is at home
   pub turn_keeps : (lane own : ℕ) → 0 < length (lane_keys lane past) → IsHome new (newest (lane_keys lane past))
       → IsKeptPast new (Turn lane own ∷ past)
@@ -32,7 +28,7 @@ module _ {E : Type 0} (cs new : List Cell) (still : Still cs new) (past : List (
     where
       go : (other : ℕ) (b : Bool) → (other == lane) ≡ b
           → IsKeptLane new (lanes_in past) other (cons_option (cond b (Some own) None) (lane_keys other past))
-          (mine other)
+          (visits other past)
       go other true is =
           let same : other ≡ lane = eqb-true other lane is in
           let was = kept.lanes other in
@@ -46,30 +42,31 @@ module _ {E : Type 0} (cs new : List Cell) (still : Still cs new) (past : List (
             begun = λ early. absurd (omega (arith, some_key, ap length (was.begun early)));
           }
       go other false is =
-          still_kept cs new still (lanes_in past) other (lane_keys other past) (mine other) (kept.lanes other)
+          still_kept cs new still (lanes_in past) other (lane_keys other past) (visits other past) (kept.lanes other)
 
-  -- an entry, once the newest cell that was named for the end is at home, where its lane has a turn left
-  pub added_keeps : (lane : ℕ) (entry : E) (next : ℕ) → length (mine lane) < length (older (lane_keys lane past))
-      → IsHome new (newest (head_keys past)) → IsKeptPast new (Added lane entry next ∷ past)
-  added_keeps lane entry next left here = record {
+  -- a visit, once the newest cell that was named for the end is at home, where its lane has a turn left
+  pub visited_keeps : (lane : ℕ) (entry : Option E) (next : ℕ)
+      → length (visits lane past) < length (older (lane_keys lane past)) → IsHome new (newest (head_keys past))
+      → IsKeptPast new (Visited lane entry next ∷ past)
+  visited_keeps lane entry next left here = record {
     home = all_home cs new still (head_keys past) kept.home here;
     lanes = λ other. go other (other == lane) refl;
   }
     where
       go : (other : ℕ) (b : Bool) → (other == lane) ≡ b
           → IsKeptLane new (lanes_in past) other (lane_keys other past)
-          (cons_option (cond b (Some entry) None) (mine other))
+          (cons_option (cond b (Some next) None) (visits other past))
       go other true is =
           let was = kept.lanes other in
-          let turn : length (mine other) < length (older (lane_keys other past)) =
-          subst (λ (l : ℕ). length (mine l) < length (older (lane_keys l past))) (sym (eqb-true other lane is)) left in
+          let turn : length (visits other past) < length (older (lane_keys other past)) =
+          subst (λ (l : ℕ). length (visits l past) < length (older (lane_keys l past))) (sym (eqb-true other lane is)) left in
           record {
             home = still_home cs new still (older (lane_keys other past)) was.home;
             turns = omega (arith, turn);
             begun = was.begun;
           }
       go other false is =
-          still_kept cs new still (lanes_in past) other (lane_keys other past) (mine other) (kept.lanes other)
+          still_kept cs new still (lanes_in past) other (lane_keys other past) (visits other past) (kept.lanes other)
 
   -- a lane that is begun, once the newest cell that was named for the end is at home
   pub begun_keeps : (lane own next : ℕ) → lane ≡ lanes_in past → IsHome new (newest (head_keys past))
@@ -81,7 +78,7 @@ module _ {E : Type 0} (cs new : List Cell) (still : Still cs new) (past : List (
     where
       go : (other : ℕ) (b : Bool) → (other == lane) ≡ b
           → IsKeptLane new (suc (lanes_in past)) other (cons_option (cond b (Some own) None) (lane_keys other past))
-          (mine other)
+          (visits other past)
       go other true is =
           let same : other ≡ lane = eqb-true other lane is in
           let was = kept.lanes other in

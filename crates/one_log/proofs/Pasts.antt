@@ -1,17 +1,17 @@
 -- What stands in a log, and what was seen of it before.
-use Rattle.std.proofs.Common.{◌≡◌, ℕ, ◌<◌, ◌≤◌, ◌==◌, true, false, List, [], ◌∷◌, ◌++◌, length, Option, filter_map, refl, ap, sym, subst, ◌∙◌, arith, length-append, append_assoc}
+use Rattle.std.proofs.Common.{◌≡◌, ℕ, ◌<◌, ◌≤◌, ◌==◌, Bool, true, false, cond, List, [], ◌∷◌, ◌++◌, length, Option, Some, None, filter_map, refl, ap, sym, subst, ◌∙◌, arith, length-append, append_assoc}
 use Rattle.std.specs.Prelude.{reverse}
+use Rattle.std.specs.List.{cons_option}
 use Rattle.std.proofs.lemmas.List.{reverse-append}
 use Rattle.std.proofs.lemmas.List.Elements.{filter_map-append}
 use Rattle.std.proofs.lemmas.Bool.{eq-eqb}
 use mathlib.Core.List.{IsPrefix}
 use Rattle.logbook.specs.Pages.{Cell, cell}
 use Rattle.one_log.specs.Follows.{of_lane}
-use Rattle.one_log.specs.Rules.{AreHome, entries_in, entry_in, head_key, head_keys, lane_in, lane_key, lane_keys, lanes_in, newest, older}
+use Rattle.one_log.specs.Rules.{AreHome, entries_in, entry_in, head_key, head_keys, lane_in, lane_key, lane_keys, lanes_in, newest, older, visit_in, visits, with_entry}
 use Rattle.one_log.specs.declared.link.Link.{Link}
-use Rattle.one_log.specs.declared.link.Link.TheVariants.{Begun, Turn, Added}
+use Rattle.one_log.specs.declared.link.Link.TheVariants.{Begun, Turn, Visited}
 use Rattle.one_log.proofs.Cells.{whole}
-use Rattle.one_log.proofs.Lanes.{of_lane_append}
 
 pub prefix_trans : {A : Type 0} (xs ys zs : List A) → IsPrefix xs ys → IsPrefix ys zs → IsPrefix xs zs
 prefix_trans xs ys zs p q = (p.0 ++ q.0, sym (append_assoc xs p.0 q.0) ∙ (ap (λ w. w ++ q.0) p.1 ∙ q.1))
@@ -53,19 +53,50 @@ no_entries : {E : Type 0} (past : List (Link E)) → filter_map head_key past �
 no_entries [] none = refl
 no_entries (Begun lane own next ∷ past) none = absurd (cc none)
 no_entries (Turn lane own ∷ past) none = no_entries past none
-no_entries (Added lane entry next ∷ past) none = absurd (cc none)
+no_entries (Visited lane entry next ∷ past) none = absurd (cc none)
 
 no_lanes : {E : Type 0} (past : List (Link E)) → filter_map head_key past ≡ [] → filter_map lane_in past ≡ []
 no_lanes [] none = refl
 no_lanes (Begun lane own next ∷ past) none = absurd (cc none)
 no_lanes (Turn lane own ∷ past) none = no_lanes past none
-no_lanes (Added lane entry next ∷ past) none = absurd (cc none)
+no_lanes (Visited lane entry next ∷ past) none = absurd (cc none)
+
+no_visits : {E : Type 0} (lane : ℕ) (past : List (Link E)) → filter_map head_key past ≡ [] → visits lane past ≡ []
+no_visits lane [] none = refl
+no_visits lane (Begun other own next ∷ past) none = absurd (cc none)
+no_visits lane (Turn other own ∷ past) none = no_visits lane past none
+no_visits lane (Visited other entry next ∷ past) none = absurd (cc none)
+
+-- who didn't visit the end added nothing
+pub none_added : {E : Type 0} (lane : ℕ) (past : List (Link E)) → visits lane past ≡ []
+    → of_lane lane (entries_in past) ≡ []
+none_added lane [] none = refl
+none_added lane (Begun other own next ∷ past) none = none_added lane past none
+none_added lane (Turn other own ∷ past) none = none_added lane past none
+none_added {E} lane (Visited other entry next ∷ past) none =
+    go entry (lane == other) refl none (none_added lane past)
+  where
+    go : (entry : Option E) (b : Bool) → (lane == other) ≡ b
+        → cons_option (cond b (Some next) None) (visits lane past) ≡ []
+        → (visits lane past ≡ [] → of_lane lane (entries_in past) ≡ [])
+        → of_lane lane (entries_in (Visited other entry next ∷ past)) ≡ []
+    go entry true is none rest = absurd (cc none)
+    go None false is none rest = rest none
+    go (Some e) false is none rest =
+        ap (λ (b : Bool). cons_option (cond b (Some e) None) (of_lane lane (entries_in past))) is ∙ rest none
+
+-- what a visit adds
+pub entries_then : {E : Type 0} (lane : ℕ) (entry : Option E) (next : ℕ) (past : List (Link E))
+    → entries_in (Visited lane entry next ∷ past) ≡ with_entry lane entry (entries_in past)
+entries_then lane None next past = refl
+entries_then lane (Some entry) next past = refl
 
 -- the end stands where it stood
 pub record SameEnd {E : Type 0} (past later : List (Link E)) : Type 0 where
   pub keys : head_keys later ≡ head_keys past
   pub entries : entries_in later ≡ entries_in past
   pub lanes : lanes_in later ≡ lanes_in past
+  pub visited : (lane : ℕ) → visits lane later ≡ visits lane past
 
 head_some : {E : Type 0} (past : List (Link E)) → 0 < length (head_keys past)
 head_some past = omega (arith, length-append (filter_map head_key past) (2 ∷ []))
@@ -87,6 +118,8 @@ same_end {E} cs v log pre home away =
       entries = picked entry_in v log pre ∙ ap (λ (l : List (ℕ × E)). l ++ entries_in (reverse v)) (no_entries more none);
       lanes = ap length (picked lane_in v log pre)
           ∙ ap (λ (l : List ℕ). length (l ++ filter_map lane_in (reverse v))) (no_lanes more none);
+      visited = λ lane.
+          picked (visit_in lane) v log pre ∙ ap (λ (l : List ℕ). l ++ visits lane (reverse v)) (no_visits lane more none);
     }
 
 -- and so for a lane
@@ -101,7 +134,7 @@ same_lane {E} cs lane v log pre home some away =
     whole cs more (lane_keys lane (reverse v)) some (subst (λ (l : List ℕ). AreHome cs (older l)) keys home) away in
     keys ∙ ap (λ (l : List ℕ). l ++ lane_keys lane (reverse v)) none
 
--- a lane has no fewer cells, and no fewer entries, than it had
+-- a lane has no fewer cells, and no fewer visits, than it had
 pub more_keys : {E : Type 0} (lane : ℕ) (v log : List (Link E)) → IsPrefix v log
     → length (lane_keys lane (reverse v)) ≤ length (lane_keys lane (reverse log))
 more_keys lane v log pre = omega (
@@ -110,13 +143,13 @@ more_keys lane v log pre = omega (
       ∙ length-append (filter_map (lane_key lane) (reverse pre.0)) (lane_keys lane (reverse v)),
 )
 
-pub more_entries : {E : Type 0} (lane : ℕ) (v log : List (Link E)) → IsPrefix v log
-    → length (of_lane lane (entries_in (reverse v))) ≤ length (of_lane lane (entries_in (reverse log)))
-more_entries {E} lane v log pre =
-    let more : List (ℕ × E) = entries_in (reverse pre.0) in
-    let all : of_lane lane (entries_in (reverse log)) ≡ of_lane lane more ++ of_lane lane (entries_in (reverse v)) =
-    ap (of_lane lane) (picked entry_in v log pre) ∙ of_lane_append lane more (entries_in (reverse v)) in
-    omega (arith, ap length all ∙ length-append (of_lane lane more) (of_lane lane (entries_in (reverse v))))
+pub more_visits : {E : Type 0} (lane : ℕ) (v log : List (Link E)) → IsPrefix v log
+    → length (visits lane (reverse v)) ≤ length (visits lane (reverse log))
+more_visits lane v log pre = omega (
+  arith,
+  ap length (picked (visit_in lane) v log pre)
+      ∙ length-append (visits lane (reverse pre.0)) (visits lane (reverse v)),
+)
 
 pub same_number : (n : ℕ) → (n == n) ≡ true
 same_number n = eq-eqb n n refl

@@ -1,16 +1,16 @@
 //! The log, its end, and its beginnings.
-ghost use Rattle.std.specs.Prelude.{◌≡◌, ◌+◌, ◌∷◌, []};
+ghost use Rattle.std.specs.Prelude.{◌≡◌, ◌+◌, ◌∷◌, [], option_copied};
 ghost use mathlib.Core.List.{IsPrefix};
 ghost use Rattle.logbook.specs.Pages.{may_write};
 ghost use Rattle.one_log.specs.Follows.{of_lane, Follows};
-ghost use Rattle.one_log.specs.Rules.{head_of, IsPenOf};
+ghost use Rattle.one_log.specs.Rules.{head_of, with_entry, IsPenOf};
 
 use crate::link::Link;
 use logbook::{Gain, Offer, Pen, Plain, Play, Rule, Seen, Start, Word};
 use std::marker::{Brand, Model, PhantomData};
 
 /// The rule of the log: each step of its end names the cell that the next one brings home, and so does each turn of a
-/// lane. Only who has the pens of both cells can add an entry to the lane.
+/// lane. Only who has the pens of both cells can let the lane visit the end, and add an entry to it there.
 pub struct Law;
 
 impl<E> Rule<Link<E>, u64> for Law {
@@ -100,19 +100,19 @@ impl<E> Plain<Turning<E>, Link<E>, u64> for Add {
     ghost state = { λ x. None };
 }
 
-/// The last turn of a lane, its entry, and the pen of the cell that is named.
-struct Adding<E> {
+/// The last turn of a lane, the entry that it adds, if any, and the pen of the cell that is named.
+struct Visiting<'a, E> {
     own: Seen<Link<E>, u64, Law>,
-    entry: E,
+    adds: Option<&'a E>,
     pen: Pen,
 }
 
-impl<E> Plain<Adding<E>, Link<E>, u64> for Add {
-    ghost use Rattle.std.specs.Prelude.{None, reverse};
+impl<'a, E> Plain<Visiting<'a, E>, Link<E>, u64> for Add {
+    ghost use Rattle.std.specs.Prelude.{None, option_copied, reverse};
     ghost use Rattle.one_log.specs.Rules.{lane_of};
-    ghost use Rattle.one_log.specs.declared.link.Link.TheVariants.{Added};
+    ghost use Rattle.one_log.specs.declared.link.Link.TheVariants.{Visited};
 
-    ghost ask = { λ x. Added (lane_of (reverse x.own.log)) x.entry x.pen.nib.key };
+    ghost ask = { λ x. Visited (lane_of (reverse x.own.log)) (option_copied x.adds) x.pen.nib.key };
 
     ghost state = { λ x. None };
 }
@@ -284,6 +284,25 @@ impl<E, J: Naming> Head<E, J> {
         ensures seen { mine.new ≡ record { lane = mine.old.lane; log = self.new.log } }
         ensures follows { Follows mine.old.lane mine.old.log self.old.log }
     {
+        self.visit(Some(&entry), mine);
+        entry
+    }
+
+    /// Lets whoever asks for it see the whole log, to which nothing is added.
+    pub fn show(&mut self, mine: &mut Front<E, J>)
+        ensures same { self.new ≡ self.old }
+        ensures seen { mine.new ≡ record { lane = mine.old.lane; log = self.new.log } }
+        ensures follows { Follows mine.old.lane mine.old.log self.old.log }
+    {
+        self.visit(None, mine);
+    }
+
+    /// Adds an entry to the lane of a front, if there is one to add, and lets the front see the whole log then.
+    fn visit<'a>(&'a mut self, adds: Option<&'a E>, mine: &mut Front<E, J>)
+        ensures log { self.new ≡ record self.old { log = with_entry mine.old.lane (option_copied adds.entry) self.old.log } }
+        ensures seen { mine.new ≡ record { lane = mine.old.lane; log = self.new.log } }
+        ensures follows { Follows mine.old.lane mine.old.log self.old.log }
+    {
         let mut now = joined(&self.seen, &mine.seen, &mine.own);
         let own = new_cell(&self.word, &mut now);
         let next = new_cell(&self.word, &mut now);
@@ -300,21 +319,20 @@ impl<E, J: Naming> Head<E, J> {
         let Turning { own: _, pen } = turning;
         mine.pen = pen;
         mine.own = now.again();
-        let adding = Adding {
+        let visiting = Visiting {
             own: now.again(),
-            entry,
+            adds,
             pen: next,
         };
-        let mut offer: Offer<Link<E>, u64, Law, Nothing> = now.plain::<Nothing, Adding<E>, Add>(
-            &adding,
+        let mut offer: Offer<Link<E>, u64, Law, Nothing> = now.plain::<Nothing, Visiting<E>, Add>(
+            &visiting,
         );
         let _found = self
             .word
             .compare_exchange::<Add, Nothing>(0, 1, &mut now, &mut offer, &mut self.pen);
-        let Adding { own: _, entry, pen } = adding;
+        let Visiting { own: _, adds: _, pen } = visiting;
         self.pen = pen;
         self.seen = now.again();
         mine.seen = now;
-        entry
     }
 }

@@ -8,7 +8,6 @@ mod machine_source;
 mod memory;
 mod opening;
 mod peers;
-mod spent;
 
 pub use asking::{Answer, Turn, answer_of, replies_of, step_of, steps_of, text_of};
 pub use cores::{Recorder, Shared, TestCore};
@@ -25,4 +24,3 @@ pub use machine_source::MachineSource;
 pub use memory::{Client, Sent, has_termination, read_client, read_outstation};
 pub use opening::{Opening, hub_on, replies_of_run};
 pub use peers::{FROM_CLIENT, MASTER, SOURCES, Source, Still, TWO_OUTSTATIONS};
-pub use spent::Spent;

@@ -7,7 +7,7 @@ use Rattle.one_log.specs.declared.link.Link.{Link}
 use Rattle.one_log.specs.declared.link.Link.TheVariants.{Begun}
 use Rattle.one_log.proofs.Adding.{adds_moves}
 use Rattle.one_log.proofs.Fronts.{AfterBegun, after_begun, begun_turn, may_begin}
-use Rattle.one_log.proofs.Pasts.{since}
+use Rattle.one_log.proofs.Pasts.{none_added, since}
 use Rattle.one_log.proofs.log.Head.lane.Given.{Over}
 use Rattle.one_log.proofs.log.Head.lane.Goals as goal
 
@@ -89,4 +89,5 @@ returns-clause-none g c =
     let k = known g c in
     let now = c.compare_exchange-found.new.seen.log in
     let lane = ap (λ s. lane_of (reverse s.log)) c.again-3.ensures ∙ k.lane in
-    subst (λ (n : ℕ). of_lane n (entries_in (reverse now)) ≡ []) (sym lane) k.used
+    subst (λ (n : ℕ). of_lane n (entries_in (reverse now)) ≡ []) (sym lane)
+    (none_added (lanes_in (reverse c.self.inside.seen.log)) (reverse now) k.unused)

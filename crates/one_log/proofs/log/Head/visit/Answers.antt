@@ -1,15 +1,15 @@
-use Rattle.std.proofs.Common.{◌∙◌, ℕ, List, ◌∷◌, refl, sym, ap, ap₂, subst, arith}
-use Rattle.std.specs.Prelude.{reverse}
+use Rattle.std.proofs.Common.{◌∙◌, ℕ, List, refl, sym, ap, ap₂, subst, arith}
+use Rattle.std.specs.Prelude.{option_copied, reverse}
 use mathlib.Core.List.{IsPrefix}
 use Rattle.one_log.specs.Follows.{Follows, Known, Whole}
-use Rattle.one_log.specs.Rules.{HasTurn, entries_in, head_keys, lane_keys, lane_of, lanes_in, newest}
+use Rattle.one_log.specs.Rules.{HasTurn, entries_in, head_keys, lane_keys, lane_of, lanes_in, newest, with_entry}
 use Rattle.one_log.specs.declared.link.Link.{Link}
-use Rattle.one_log.specs.declared.link.Link.TheVariants.{Added, Turn}
+use Rattle.one_log.specs.declared.link.Link.TheVariants.{Turn, Visited}
 use Rattle.one_log.proofs.Adding.{adds_moves}
-use Rattle.one_log.proofs.Fronts.{AfterAdded, AfterTurn, added_turn, after_added, after_turn, may_add, may_turn}
+use Rattle.one_log.proofs.Fronts.{AfterTurn, AfterVisit, after_turn, after_visit, may_turn, may_visit, visited_turn}
 use Rattle.one_log.proofs.Pasts.{learned, prefix_trans}
-use Rattle.one_log.proofs.log.Head.add.Given.{Over}
-use Rattle.one_log.proofs.log.Head.add.Goals as goal
+use Rattle.one_log.proofs.log.Head.visit.Given.{Over}
+use Rattle.one_log.proofs.log.Head.visit.Goals as goal
 
 pub compare_exchange-found-requires : goal.compare_exchange-found-requires
 compare_exchange-found-requires g c =
@@ -60,6 +60,7 @@ compare_exchange-found-requires-2 g c =
     let lane = lane_of (reverse own) in
     let key = c.new_cell-own.result.nib.key in
     let next = c.new_cell-next.result.nib.key in
+    let entry = option_copied c.args.adds in
     let known =
     learned own c.mine.inside.seen.log whole c.joined-now.result.log c.new_cell-own.new.seen.log now
     c.joined-now.ensures.own c.joined-now.ensures.mine c.joined-now.ensures.whole c.new_cell-own.ensures.seen
@@ -70,24 +71,24 @@ compare_exchange-found-requires-2 g c =
     last.turns last.is_pen.2 c.compare_exchange-found.ensures.7 in
     let asked =
     offer.1
-    ∙ (ap (λ s. Added (lane_of (reverse s.log)) c.args.entry next) c.again-3.ensures
-    ∙ ap (λ n. Added n c.args.entry next) turn.lane_is) in
+    ∙ (ap (λ s. Visited (lane_of (reverse s.log)) entry next) c.again-3.ensures
+    ∙ ap (λ n. Visited n entry next) turn.lane_is) in
     let seen : IsPrefix whole then = prefix_trans whole now then known.whole_is c.compare_exchange-found.ensures.6 in (
       ap (λ w. w.tracked) h,
       book ∙ sym word,
       pen.0 ∙ sym word,
       offer.0,
       rw (ap (λ w. w.key) h, offer.3)
-          (adds_moves then (Added lane c.args.entry next) c.plain-offer.result.ask c.self.inside.pen.nib
+          (adds_moves then (Visited lane entry next) c.plain-offer.result.ask c.self.inside.pen.nib
           (newest (head_keys (reverse whole))) pen.1 pen.2 asked
-          (may_add lane c.args.entry next whole then seen (omega (arith, turn.few, turn.turns_are)))),
+          (may_visit lane entry next whole then seen (omega (arith, turn.few, turn.turns_are)))),
     )
 
 -- what is known after both steps
 known : (g : Over) (c : goal.After-drop-turn g)
     → AfterTurn (lane_of (reverse c.mine.inside.own.log)) c.new_cell-own.result.nib.key c.mine.inside.own.log
     c.mine.inside.seen.log c.self.inside.seen.log c.compare_exchange-found.new.seen.log
-    × AfterAdded (lane_of (reverse c.mine.inside.own.log)) c.args.entry c.mine.inside.seen.log c.self.inside.seen.log
+    × AfterVisit (lane_of (reverse c.mine.inside.own.log)) (option_copied c.args.adds) c.mine.inside.seen.log c.self.inside.seen.log
     c.compare_exchange-found-2.new.seen.log
 known g c =
     let last = c.mine.invariant.2 in
@@ -99,6 +100,7 @@ known g c =
     let lane = lane_of (reverse own) in
     let key = c.new_cell-own.result.nib.key in
     let next = c.new_cell-next.result.nib.key in
+    let entry = option_copied c.args.adds in
     let before =
     learned own mine whole c.joined-now.result.log c.new_cell-own.new.seen.log now c.joined-now.ensures.own
     c.joined-now.ensures.mine c.joined-now.ensures.whole c.new_cell-own.ensures.seen c.new_cell-next.ensures.seen in
@@ -108,12 +110,12 @@ known g c =
     last.turns last.is_pen.2 c.compare_exchange-found.ensures.7 in
     let asked =
     c.plain-offer.ensures.1
-    ∙ (ap (λ s. Added (lane_of (reverse s.log)) c.args.entry next) c.again-3.ensures
-    ∙ ap (λ n. Added n c.args.entry next) turn.lane_is) in
+    ∙ (ap (λ s. Visited (lane_of (reverse s.log)) entry next) c.again-3.ensures
+    ∙ ap (λ n. Visited n entry next) turn.lane_is) in
     let seen : IsPrefix whole then = prefix_trans whole now then before.whole_is c.compare_exchange-found.ensures.6 in
     let seen_mine : IsPrefix mine then = prefix_trans mine now then before.mine_is c.compare_exchange-found.ensures.6 in (
       turn,
-      after_added lane c.args.entry next mine whole asked seen_mine seen turn.few c.self.invariant.2.2
+      after_visit lane entry next mine whole asked seen_mine seen turn.few c.self.invariant.2.2
           c.compare_exchange-found-2.ensures.7,
     )
 
@@ -132,20 +134,21 @@ invariant_of-mine g c =
       c.compare_exchange-found-2.ensures.0 ∙ book,
       subst (λ (l : List (Link g.row.E.Denot)). HasTurn g.J.Naming.book (reverse l) (reverse now) c.new_cell-own.result)
           (sym (ap (λ s. s.log) c.again-2.ensures))
-          (added_turn (lane_of (reverse own)) c.new_cell-own.result.nib.key c.args.entry g.J.Naming.book own
+          (visited_turn (lane_of (reverse own)) c.new_cell-own.result.nib.key (option_copied c.args.adds) g.J.Naming.book own
           c.mine.inside.seen.log c.self.inside.seen.log then now c.new_cell-own.result k.0 k.1
           (pen.0 ∙ start, pen.1, refl)),
     )
 
-pub returns-clause-added : goal.returns-clause-added
-returns-clause-added g c =
+pub returns-clause-log : goal.returns-clause-log
+returns-clause-log g c =
     let k = (known g c).1 in
     let log = ap (λ s. reverse s.log) c.again-4.ensures in
+    let entry = option_copied c.args.adds in
     ap₂ (λ (n : ℕ) (l : List (ℕ × g.row.E.Denot)). record { lanes = n; log = l })
     (ap lanes_in log ∙ (k.lanes ∙ ap (λ (w : Whole g.row.E.Denot). w.lanes) c.self.view_is))
     (ap entries_in log
     ∙ (k.entries
-    ∙ ap₂ (λ (n : ℕ) (l : List (ℕ × g.row.E.Denot)). (n, c.args.entry) ∷ l)
+    ∙ ap₂ (λ (n : ℕ) (l : List (ℕ × g.row.E.Denot)). with_entry n entry l)
     (ap (λ (w : Known g.row.E.Denot). w.lane) c.mine.view_is) (ap (λ (w : Whole g.row.E.Denot). w.log) c.self.view_is)))
 
 pub returns-clause-follows : goal.returns-clause-follows

@@ -1,0 +1,17 @@
+use Rattle.std.proofs.Common.{List, ap, rules, subst, sym, ◌∙◌}
+use Rattle.gw_steps.specs.Runs.{Entry}
+use Rattle.one_log.specs.Follows.{Known, Whole}
+use Rattle.gw_shared.specs.Reached.{Deed, IsCourse, entries_of}
+use Rattle.gw_shared.specs.Roles.{KeepsRoles}
+use Rattle.gw_shared.proofs.locked.Core.show.Goals as goal
+
+pub invariant_of-pass : goal.invariant_of-pass
+invariant_of-pass g c =
+    let known =
+    ap (λ (k : Known Entry). k.log) c.show.ensures.seen ∙ ap (λ (w : Whole Entry). w.log) c.show.ensures.same in (
+      search rules,
+      search rules,
+      search rules,
+      subst (KeepsRoles g.L.Course.roles) (sym known) c.self.invariant.5,
+      subst (λ (l : List Deed). IsCourse g.L.Course.setup (entries_of l)) (sym known) c.self.invariant.4.course,
+    )
