@@ -1,12 +1,13 @@
-/* To be preloaded by a program: bends what the system tells it, for peers at some addresses, and the time of day.
+/* To be preloaded by a program: bends what the system tells it, for peers at some addresses, and the time.
  *
  * 127.101.0.N: connecting fails with the error of this number; 127.102.C.N: reading does, behind C reads that don't;
  * 127.103.C.N: writing does, behind C writes; 127.104.0.N: accepting a connection does, which is closed.
  * 127.105.0.N: a call reads or writes N octets at most, and is interrupted once before it is made.
  * 127.106.0.N: a thread that has read from it takes N hundredths of a second each time that it reads the time of day.
  * 127.107.0.N: of what is written to it the system keeps some N kB at most until it reads.
- * TIME_OF_DAY: a file with the time of day in milliseconds since 1970, which stands still until the file is written, and how
- * many hundredths of a second a thread without a peer takes each time that it reads it; eight octets each. */
+ * TIME_OF_DAY: a file with the time of day in milliseconds since 1970, which stands still until the file is written, how many
+ * hundredths of a second a thread without a peer takes each time that it reads it, and how many milliseconds the monotonic clock
+ * is ahead; eight octets each. */
 #include <errno.h>
 #include <fcntl.h>
 #include <stdatomic.h>
@@ -44,7 +45,7 @@ __attribute__((constructor)) static void begin(void)
     int file = name ? open(name, O_RDONLY | O_CLOEXEC) : -1;
     if (file < 0)
         return;
-    void *octets = mmap(NULL, 2 * sizeof *time_of_day, PROT_READ, MAP_SHARED, file, 0);
+    void *octets = mmap(NULL, 3 * sizeof *time_of_day, PROT_READ, MAP_SHARED, file, 0);
     time_of_day = octets == MAP_FAILED ? NULL : octets;
     close(file);
 }
@@ -150,8 +151,17 @@ static void rest_for(long hundredths)
         nanosleep(&pause, NULL);
 }
 
+static int monotonic_time(struct timespec *time)
+{
+    int status = (int)syscall(SYS_clock_gettime, CLOCK_MONOTONIC, time);
+    time->tv_sec += time_of_day ? time_of_day[2] / 1000 : 0;
+    return status;
+}
+
 int clock_gettime(clockid_t clock, struct timespec *time)
 {
+    if (clock == CLOCK_MONOTONIC)
+        return monotonic_time(time);
     if (clock != CLOCK_REALTIME)
         return (int)syscall(SYS_clock_gettime, clock, time);
     rest_for(has_peer || !time_of_day ? slow_by : time_of_day[1]);

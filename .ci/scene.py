@@ -52,6 +52,7 @@ KINDS = {
         *(rf"outstation \d+ \S+ {re.escape(it)}" for it in TROUBLES),
         COUNTS,
         r"outstation \d+ \S+ unreadable: .+",
+        r"outstation \d+ \S+ doesn't answer a link status",
         r"outstation \d+ \S+ \d+ objects? passed over, of kinds that aren't taken",
         r"outstation \d+ \S+ order \d+ (failed|let go): .+",
         r"client \d \S+ (lost: .+|closed: (?!the gateway ends|gave way).+)",
@@ -160,6 +161,7 @@ class Clock:
     def __init__(self, now):
         self.file, self.shown = tempfile.NamedTemporaryFile(), set()
         self.slow(0)
+        self.be_ahead(0)
         self.set(now)
 
     def set(self, now):
@@ -169,6 +171,10 @@ class Clock:
     def slow(self, hundredths):
         """Threads that have no peer take so many hundredths of a second to read it."""
         os.pwrite(self.file.fileno(), struct.pack("<q", hundredths), 8)
+
+    def be_ahead(self, seconds):
+        """The monotonic clock, by which waits are measured, is ahead by so many seconds."""
+        os.pwrite(self.file.fileno(), struct.pack("<q", 1000 * seconds), 16)
 
 
 class Scene:

@@ -35,6 +35,10 @@ decision expected function bit =
 abbrev pub is_for : Station → FrameContent → Bool
 is_for s c = c.destination == s.own && c.source == s.peer && c.control / 64 == 1
 
+-- the frame tells the status of the link, which this end asked for: LINK_STATUS from the peer to this one, with DIR 0 and PRM 0
+abbrev pub is_status : Station → FrameContent → Bool
+is_status s c = c.destination == s.own && c.source == s.peer && c.control / 64 == 0 && c.control % 16 == 11
+
 -- the decision on a frame, by its function code and its frame count bit; other frames are ignored
 abbrev pub decision_on : Station → FrameContent → Decision
 decision_on s c =

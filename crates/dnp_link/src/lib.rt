@@ -18,4 +18,4 @@ pub use event::{LinkEvent, SkipReason};
 pub use feed::LinkFeed;
 pub use frame::Frame;
 pub use secondary::{Answer, Secondary};
-pub use writing::write_frame;
+pub use writing::{header_block, write_frame};

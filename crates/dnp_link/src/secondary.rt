@@ -2,7 +2,7 @@
 ghost use Rattle.std.specs.Prelude.{◌≡◌, [], None};
 ghost use Rattle.dnp_link.specs.Frame.{frame, frame_content};
 ghost use Rattle.dnp_link.specs.FrameContent.{content};
-ghost use Rattle.dnp_link.specs.Secondary.{answer_of, station_after};
+ghost use Rattle.dnp_link.specs.Secondary.{answer_of, is_status, station_after};
 
 use crate::frame::Frame;
 use crate::writing::header_block;
@@ -60,6 +60,17 @@ impl Secondary {
             peer,
             expected: None,
         }
+    }
+
+    /// Whether a frame tells the status of the link, which is asked for by REQUEST_LINK_STATUS: LINK_STATUS (11) from the peer to
+    /// this address, with DIR 0 and PRM 0.
+    pub fn is_status(&self, frame: &Frame) -> bool
+        ensures { result ≡ is_status self.now (content frame.now) }
+    {
+        frame.destination == self.own
+            && frame.source == self.peer
+            && frame.control / 64 == 0
+            && frame.control % 16 == 11
     }
 
     /// What to do with a frame. One to another address, from another address, with DIR 1 or with PRM 0 is

@@ -20,6 +20,7 @@ ghost use Rattle.std.specs.Prelude.{
 };
 ghost use Rattle.dnp_link.specs.Frame.{FrameContent};
 ghost use Rattle.dnp_link.specs.FrameContent.{content};
+ghost use Rattle.dnp_link.specs.Secondary.{is_status};
 ghost use Rattle.dnp_transport.specs.Segment.{may_begin};
 ghost use Rattle.dnp_transport.specs.Series.{step};
 ghost use Rattle.dnp_transport.specs.Runs.{series_after, fragment_in};
@@ -65,6 +66,13 @@ impl Receiver {
             secondary: Secondary::new(own, peer),
             assembler: Assembler::new(alloc),
         }
+    }
+
+    /// Whether a frame tells the status of the link, which is asked for by REQUEST_LINK_STATUS.
+    pub fn is_status(&self, frame: &Frame) -> bool
+        ensures { result ≡ is_status self.now.station (content frame.now) }
+    {
+        self.secondary.is_status(frame)
     }
 
     /// Takes a frame of the link. What it brings is told by it and all frames before it; the link may owe a reply

@@ -57,12 +57,15 @@ pub enum Warning<'a> {
         /// The address of connection.
         connect: &'a str,
     },
-    /// Events of an outstation come late: it is asked for them more than a minute apart, and may not send them unasked.
+    /// An outstation is polled more than a minute apart: its events come late, or, where it sends them unasked, its loss may show
+    /// late.
     SlowPoll {
         /// The outstation.
         outstation: u8,
         /// From one poll to the next, in milliseconds.
         poll_ms: u64,
+        /// Whether it may send events unasked.
+        unsolicited: bool,
     },
     /// A response is awaited for less time than a fragment of one takes on a slow line, of an outstation with many points.
     ShortResponse {
@@ -141,7 +144,11 @@ impl<'a> Warning<'a> {
             ),
             Warning::SamePlace { first, .. } => write_same_place(f, first),
             Warning::SharedConnect { first, connect, .. } => write_shared(f, first, connect),
-            Warning::SlowPoll { poll_ms, .. } => write_slow_poll(f, poll_ms),
+            Warning::SlowPoll {
+                poll_ms,
+                unsolicited,
+                ..
+            } => write_slow_poll(f, poll_ms, unsolicited),
             Warning::ShortResponse {
                 response_ms,
                 points,
@@ -198,12 +205,18 @@ fn write_shared<W: fmt::Write>(f: &mut fmt::Formatter<W>, first: u8, connect: &s
     )
 }
 
-/// Writes how seldom an outstation is polled.
-fn write_slow_poll<W: fmt::Write>(f: &mut fmt::Formatter<W>, poll_ms: u64) -> fmt::Result {
-    write!(
-        f,
-        "poll_ms = {poll_ms} is above 60000 while unsolicited is false"
-    )
+/// Writes how seldom an outstation is polled, and what comes of it.
+fn write_slow_poll<W: fmt::Write>(
+    f: &mut fmt::Formatter<W>,
+    poll_ms: u64,
+    unsolicited: bool,
+) -> fmt::Result {
+    let what = if unsolicited {
+        ": a dead connection may show that late"
+    } else {
+        " while unsolicited is false"
+    };
+    write!(f, "poll_ms = {poll_ms} is above 60000{what}")
 }
 
 /// Writes for how short a time a response of many points is awaited.

@@ -201,15 +201,20 @@ fn add_of_bus<'a>(
     }
 }
 
-/// Adds that an outstation is asked for events too seldom.
+/// Adds that an outstation is polled more than a minute apart.
 fn add_of_poll(found: &mut Vec<Warning>, outstation: u8, poll: Poll) -> Result<(), AllocError> {
-    let poll_ms = poll.poll_ms;
-    if poll_ms > LONGEST_POLL_MS && !poll.unsolicited {
+    let Poll {
+        poll_ms,
+        unsolicited,
+        ..
+    } = poll;
+    if poll_ms > LONGEST_POLL_MS {
         add(
             found,
             Warning::SlowPoll {
                 outstation,
                 poll_ms,
+                unsolicited,
             },
         )
     } else {

@@ -74,6 +74,7 @@ impl Ending {
             WorkerEnd::EndOfInput => Cause::EndOfInput,
             WorkerEnd::ReadFault => Cause::NotRead(failure_in(&self.not_read)),
             WorkerEnd::Unanswered => Cause::Unanswered,
+            WorkerEnd::LinkUnanswered => Cause::LinkUnanswered,
             WorkerEnd::WriteFault => Cause::NotWritten(failure_in(&self.not_written)),
             WorkerEnd::Malformed(fault) => Cause::NotApdus(fault),
             WorkerEnd::Memory => Cause::Memory,

@@ -303,6 +303,7 @@ fn serve_line<
         patience: Patience {
             for_clients: plan.patience_ms(),
             for_answers: plan.silence_ms(),
+            for_status: plan.response_ms(),
         },
         socket,
         line: &line,

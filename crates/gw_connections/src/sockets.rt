@@ -25,12 +25,16 @@ pub struct ClientSocket<'a> {
     has_failed: bool,
 }
 
-/// A connection to an outstation. A read or a write that takes too long fails. That nothing more comes is noted
-/// likewise.
+/// A connection to an outstation. A write that takes too long fails, and so does a read, which comes back meanwhile, so that
+/// the reader may look at the link. That nothing more comes is noted likewise.
 #[derive(Clone, Copy)]
 pub struct OutstationSocket<'a> {
     stream: &'a TcpStream,
     ending: &'a Ending,
+    /// How many waits for octets may still follow each other in which none comes, the last of which fails.
+    waits: u32,
+    /// How many there may be behind octets.
+    waits_at_most: u32,
     /// Whether a read or a write of this value has failed.
     has_failed: bool,
 }
@@ -55,12 +59,31 @@ impl<'a> OutstationSocket<'a> {
         ensures { result.has_failed ≡ false }
     {
         let _ = stream.set_nodelay(true);
-        let _ = stream.set_read_timeout(Some(plan.silence));
+        let _ = stream.set_read_timeout(Some(plan.wait()));
         let _ = stream.set_write_timeout(Some(plan.response));
+        let waits = plan.waits();
         OutstationSocket {
             stream,
             ending,
+            waits,
+            waits_at_most: waits,
             has_failed: false,
+        }
+    }
+
+    /// A wait for octets has ended; whether it was one in which none came, and another one may follow.
+    fn waits_on(&mut self, read: &io::Result<usize>) -> bool
+        ensures { self.new.has_failed ≡ self.old.has_failed }
+    {
+        match read {
+            Err(error) if is_timeout(error) => {
+                self.waits = self.waits.saturating_sub(1);
+                self.waits > 0
+            }
+            _ => {
+                self.waits = self.waits_at_most;
+                false
+            }
         }
     }
 }
@@ -123,7 +146,11 @@ impl<'a> Incoming for OutstationSocket<'a> {
 
     fn receive(&mut self, buffer: &mut [u8]) -> Arrival {
         let read = read(self.stream, buffer);
-        let arrival = arrival(read, buffer.len(), self.ending);
+        let arrival = if self.waits_on(&read) {
+            Arrival::Later
+        } else {
+            arrival(read, buffer.len(), self.ending)
+        };
         self.has_failed = self.has_failed || arrival.is_fault();
         arrival
     }

@@ -1,7 +1,7 @@
 -- What failed, by how workers end.
 use Rattle.std.proofs.Common.{◌≡◌, false, Option, Some, None, Ok, Err, refl}
 use Rattle.std.specs.Prelude.{IfSome}
-use Rattle.gw_ends.specs.Ends.{is_fault, is_read_fault, is_write_fault, reading_end, IsOfFrames, IsOfSteps}
+use Rattle.gw_ends.specs.Ends.{is_fault, is_read_fault, is_write_fault, reading_end, IsOfFrames, IsOfSilence, IsOfSteps}
 use Rattle.gw_ends.specs.PutOut.{is_unwritten, writing_end}
 use Rattle.gw_ends.specs.declared.ends.Arrival.{Arrival}
 use Rattle.gw_ends.specs.declared.ends.Arrival.TheVariants.{Octets, Later, End, Fault}
@@ -32,6 +32,7 @@ steps_read (Some (ends.Closed why)) steps = refl
 steps_read (Some ends.EndOfInput) steps = refl
 steps_read (Some ends.ReadFault) steps = absurd steps
 steps_read (Some ends.Unanswered) steps = refl
+steps_read (Some ends.LinkUnanswered) steps = refl
 steps_read (Some ends.WriteFault) steps = refl
 steps_read (Some (ends.Malformed fault)) steps = refl
 steps_read (Some ends.Memory) steps = refl
@@ -44,7 +45,21 @@ frames_read (Some (ends.Closed why)) frames = refl
 frames_read (Some ends.EndOfInput) frames = refl
 frames_read (Some ends.ReadFault) frames = absurd frames
 frames_read (Some ends.Unanswered) frames = refl
+frames_read (Some ends.LinkUnanswered) frames = refl
 frames_read (Some ends.WriteFault) frames = refl
 frames_read (Some (ends.Malformed fault)) frames = refl
 frames_read (Some ends.Memory) frames = refl
 frames_read (Some ends.Stopping) frames = refl
+
+-- nor does silence
+pub silence_reads : (end : Option WorkerEnd) → IfSome end IsOfSilence → is_read_fault end ≡ false
+silence_reads None silence = refl
+silence_reads (Some (ends.Closed why)) silence = refl
+silence_reads (Some ends.EndOfInput) silence = refl
+silence_reads (Some ends.ReadFault) silence = absurd silence
+silence_reads (Some ends.Unanswered) silence = refl
+silence_reads (Some ends.LinkUnanswered) silence = refl
+silence_reads (Some ends.WriteFault) silence = refl
+silence_reads (Some (ends.Malformed fault)) silence = refl
+silence_reads (Some ends.Memory) silence = refl
+silence_reads (Some ends.Stopping) silence = refl

@@ -42,6 +42,7 @@ is_write_fault _ = false
 abbrev pub MayEnd : WorkerEnd → Type 0
 MayEnd ends.WriteFault = ⊥
 MayEnd ends.Unanswered = ⊥
+MayEnd ends.LinkUnanswered = ⊥
 MayEnd _ = Unit {0}
 
 -- what steps, and what is decoded, end a reader by
@@ -50,6 +51,7 @@ IsOfSteps ends.EndOfInput = ⊥
 IsOfSteps ends.ReadFault = ⊥
 IsOfSteps ends.WriteFault = ⊥
 IsOfSteps ends.Unanswered = ⊥
+IsOfSteps ends.LinkUnanswered = ⊥
 IsOfSteps _ = Unit {0}
 
 -- a reader that also writes may end so: never by what ends a client alone
@@ -64,6 +66,12 @@ IsOfFrames ends.WriteFault = Unit {0}
 IsOfFrames ends.Memory = Unit {0}
 IsOfFrames ends.Stopping = Unit {0}
 IsOfFrames _ = ⊥
+
+-- what it ends by where nothing came
+abbrev pub IsOfSilence : WorkerEnd → Type 0
+IsOfSilence ends.WriteFault = Unit {0}
+IsOfSilence ends.LinkUnanswered = Unit {0}
+IsOfSilence _ = ⊥
 
 -- a writer may end so: by a failed write, or since it is to stop
 abbrev pub MayEndWriting : WorkerEnd → Type 0

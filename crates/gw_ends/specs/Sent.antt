@@ -4,9 +4,9 @@ use Rattle.std.specs.Io.KnownBytes.{Appends}
 use Rattle.dnp_app.specs.Requests.{octets_of}
 use Rattle.dnp_transport.specs.Cut.{segments_of}
 use Rattle.one_log.specs.Follows.{Follows, Known, of_lane}
-use Rattle.gw_ends.specs.Framed.{framed}
+use Rattle.gw_ends.specs.Framed.{framed, status_request}
 use Rattle.gw_ends.specs.declared.sent.Sent.{Sent}
-use Rattle.gw_ends.specs.declared.sent.Sent.TheVariants.{Reply, Confirm, Request}
+use Rattle.gw_ends.specs.declared.sent.Sent.TheVariants.{Reply, Status, Confirm, Request}
 use Rattle.gw_ends.specs.declared.sent.Sending.{Sending}
 
 -- the octets that one segment carries, which are all of a request
@@ -16,6 +16,7 @@ one_segment octets = take (min (length octets) 249) octets
 -- its octets, where the transport function is at this sequence number
 abbrev pub sent_octets : ℕ → ℕ → ℕ → Sent → List ℕ
 sent_octets own peer sequence (Reply frame) = frame
+sent_octets own peer sequence Status = status_request own peer
 sent_octets own peer sequence (Confirm octets) = framed own peer (segments_of octets (sequence % 64))
 sent_octets own peer sequence (Request request) =
     framed own peer (segments_of (one_segment (octets_of request)) (sequence % 64))

@@ -137,6 +137,17 @@ impl<W: Outgoing, N: LineCourse> Line<W, N> {
         self.held.lock(rt).send(Sent::Reply(*frame), mine)
     }
 
+    /// Asks for the status of the link.
+    pub fn ask_status<R: Wait>(
+        &self,
+        rt: &R,
+        mine: &mut Front<Sending, N>,
+    ) -> Result<(), Unwritten>
+        ensures sent { IsSent mine.old mine.new sents.Status (is_ok result) }
+    {
+        self.held.lock(rt).send(Sent::Status, mine)
+    }
+
     /// A confirmation may be owed from now on: requests wait.
     pub fn owe<R: Wait>(&self, rt: &R) {
         self.held.lock(rt).owed = true;

@@ -12,6 +12,8 @@ use one_log::Opened;
 pub enum Sent {
     /// A frame that the link owes.
     Reply([u8; 10]),
+    /// The request for the status of the link.
+    Status,
     /// A confirmation.
     Confirm([u8; 2]),
     /// A request.
@@ -34,6 +36,7 @@ pub fn put<W: Outgoing>(wire: &mut Wire<W>, what: &Sent) -> Result<(), Unwritten
 {
     match what {
         Sent::Reply(frame) => wire.answer(frame),
+        Sent::Status => wire.ask_status(),
         Sent::Confirm(octets) => wire.send(octets),
         Sent::Request(request) => {
             let octets = request.as_slice();

@@ -2,16 +2,20 @@
 ghost use Rattle.std.specs.Prelude.{◌≡◌, ◌≤◌, ◌<◌, ◌+◌, ◌%◌, ◌||◌, is_err, length, take, ℕ, OnErr, OnOk};
 ghost use Rattle.std.specs.Io.KnownBytes.{Appends};
 ghost use Rattle.dnp_transport.specs.Cut.{segments_of};
-ghost use Rattle.gw_ends.specs.Framed.{framed};
+ghost use Rattle.gw_ends.specs.Framed.{framed, status_request};
 
 use crate::ends::{Outgoing, Unwritten};
-use dnp_link::write_frame;
+use dnp_link::{header_block, write_frame};
 use dnp_transport::segments;
 use std::marker::Model;
 
 /// The control octet of what a master sends: DIR and PRM are set, and the function is UNCONFIRMED_USER_DATA (IEEE Std
 /// 1815-2012, clause 9).
 const USER_DATA: u8 = 0xC4;
+
+/// The control octet by which a master asks for the status of the link: DIR and PRM are set, and the function is
+/// REQUEST_LINK_STATUS (IEEE Std 1815-2012, clause 9).
+const REQUEST_LINK_STATUS: u8 = 0xC9;
 
 /// The most octets of a fragment that one segment carries.
 pub const ONE_SEGMENT: usize = 249;
@@ -68,6 +72,19 @@ impl<W: Outgoing> Wire<W> {
             self.sequence = (self.sequence % 64 + 1) % 64;
         }
         Ok(())
+    }
+
+    /// Asks for the status of the link, by a frame without user data.
+    pub fn ask_status(&mut self) -> Result<(), Unwritten>
+        ensures ok { OnOk result (Appends (W.contents self.old.writer) (W.contents self.new.writer)
+            (status_request self.old.own self.old.peer)) }
+        ensures front { OnErr result ((count : ℕ) × Appends (W.contents self.old.writer) (W.contents self.new.writer)
+            (take count (status_request self.old.own self.old.peer))) }
+        ensures failed { W.has_failed self.new.writer ≡ (is_err result || W.has_failed self.old.writer) }
+        ensures addresses { (self.new.own ≡ self.old.own) × (self.new.peer ≡ self.old.peer) }
+        ensures sequence { self.new.sequence ≡ self.old.sequence }
+    {
+        self.answer(&header_block(REQUEST_LINK_STATUS, self.peer, self.own, &[]))
     }
 
     /// Sends a frame of the link as it is.

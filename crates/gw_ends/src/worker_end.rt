@@ -14,6 +14,8 @@ pub enum WorkerEnd {
     ReadFault,
     /// Octets came, but nothing that answers for too long.
     Unanswered,
+    /// Nothing came in time behind a request for the status of the link, which was answered before.
+    LinkUnanswered,
     /// Writing failed.
     WriteFault,
     /// The peer's octets are no APDUs.

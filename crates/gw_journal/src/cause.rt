@@ -19,6 +19,8 @@ pub enum Cause {
     },
     /// Octets came of the outstation, but for too long no fragment that was taken.
     Unanswered,
+    /// An outstation that had answered the request for the status of its link doesn't any more.
+    LinkUnanswered,
     /// The peer took an APDU or a frame too slowly.
     Slow {
         /// How long a write may take.
@@ -52,6 +54,7 @@ impl fmt::Display for Cause {
             Cause::EndOfInput => "lost: end of input",
             Cause::Silent { seconds } => return write!(f, "lost: silent for {seconds} s"),
             Cause::Unanswered => "lost: octets came, but no answer",
+            Cause::LinkUnanswered => "lost: no answer to a link status",
             Cause::Slow { milliseconds } => {
                 return write!(f, "lost: a write took longer than {milliseconds} ms");
             }

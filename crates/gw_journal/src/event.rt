@@ -99,6 +99,11 @@ pub enum JournalEvent {
         /// How many, since they were told last.
         count: u64,
     },
+    /// The outstation doesn't answer the request for the status of its link.
+    LinkStatusUnanswered {
+        /// The outstation.
+        outstation: u8,
+    },
     /// Objects of kinds that aren't taken came of the outstation.
     ObjectsPassedOver {
         /// The outstation.
@@ -226,6 +231,7 @@ impl JournalEvent {
             | JournalEvent::Unanswered { .. }
             | JournalEvent::FragmentRefused { .. }
             | JournalEvent::OctetsSkipped { .. }
+            | JournalEvent::LinkStatusUnanswered { .. }
             | JournalEvent::ObjectsPassedOver { .. }
             | JournalEvent::ClientLost { .. }
             | JournalEvent::NewsDropped { .. }
@@ -248,6 +254,7 @@ impl JournalEvent {
             | JournalEvent::Unanswered { outstation, .. }
             | JournalEvent::FragmentRefused { outstation, .. }
             | JournalEvent::OctetsSkipped { outstation, .. }
+            | JournalEvent::LinkStatusUnanswered { outstation }
             | JournalEvent::ObjectsPassedOver { outstation, .. }
             | JournalEvent::Order { outstation, .. } => Subject::Outstation(*outstation),
             JournalEvent::ClientConnected { client, address }

@@ -203,6 +203,7 @@ impl<'a> fmt::Display for OutstationWords<'a> {
             JournalEvent::OutstationRestarted { .. } => "restarted (IIN1.7)",
             JournalEvent::EventsOverflowed { .. } => "its event buffer overflowed (IIN2.3)",
             JournalEvent::ClockNotSet { .. } => "its clock can't be set (IIN1.4 stays)",
+            JournalEvent::LinkStatusUnanswered { .. } => "doesn't answer a link status",
             JournalEvent::Unanswered { count, .. } => {
                 return write_counted(f, *count, "request", "unanswered");
             }

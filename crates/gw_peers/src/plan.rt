@@ -1,4 +1,5 @@
 //! What the settings say of the connections.
+ghost use Rattle.std.specs.Prelude.{◌<◌};
 
 use gw_journal::{Cause, Failure};
 use gw_map::Settings;
@@ -11,6 +12,9 @@ const LONGEST_CONNECTING_MS: u64 = 5000;
 
 /// The milliseconds that an outstation is held back at most behind a fragment.
 const LONGEST_PATIENCE_MS: u64 = 250;
+
+/// The milliseconds that its reader waits at most for octets before it looks at the link.
+const LONGEST_WAIT_MS: u64 = 1000;
 
 /// The way to an outstation.
 #[derive(Drop)]
@@ -48,6 +52,25 @@ impl Plan {
         u64::try_from(self.silence.as_millis()).unwrap_or(u64::MAX)
     }
 
+    /// How long a response may take, in milliseconds.
+    pub fn response_ms(&self) -> u64 {
+        u64::try_from(self.response.as_millis()).unwrap_or(u64::MAX)
+    }
+
+    /// In how many waits for octets, each of which is as long, it may be silent.
+    pub fn waits(&self) -> u32
+        ensures { 0 < result }
+    {
+        u32::try_from(self.silence_ms() / LONGEST_WAIT_MS)
+            .unwrap_or(u32::MAX)
+            .saturating_add(1)
+    }
+
+    /// How long its reader waits for octets before it looks at the link.
+    pub fn wait(&self) -> Duration {
+        self.silence / self.waits()
+    }
+
     /// Why a connection ended: where a wait took too long, how long it was.
     pub fn in_words(&self, cause: Cause) -> Cause {
         match cause {
@@ -55,7 +78,7 @@ impl Plan {
                 seconds: self.silence.as_secs(),
             },
             Cause::NotWritten(Failure::NoAnswer) => Cause::Slow {
-                milliseconds: u64::try_from(self.response.as_millis()).unwrap_or(u64::MAX),
+                milliseconds: self.response_ms(),
             },
             other => other,
         }

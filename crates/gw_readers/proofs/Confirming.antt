@@ -7,13 +7,14 @@ use Rattle.gw_steps.specs.declared.step.Step.TheVariants as steps
 use Rattle.gw_steps.specs.declared.step.Reply.{Reply}
 use Rattle.gw_steps.specs.declared.step.StepFault.{StepFault}
 use Rattle.gw_shared.specs.Turn.{Answers, Pass}
+use Rattle.gw_ends.specs.declared.sent.Sent.{Sent}
 use Rattle.gw_ends.specs.declared.sent.Sent.TheVariants as sents
 use Rattle.gw_ends.specs.declared.sent.Sending.{Sending}
 use Rattle.gw_ends.specs.Sent.{IsSent}
 use Rattle.one_log.specs.Follows.{Known}
 use Rattle.gw_threads.specs.Calls.{Call, given_by}
 use Rattle.gw_threads.specs.Sends.{TellsOutstationLoss}
-use Rattle.gw_threads.proofs.Calling.{calls_own, calls_then, given_then, own_then}
+use Rattle.gw_threads.proofs.Calling.{calls_own, calls_then, given_then, all-append}
 use Rattle.gw_threads.proofs.Requesting.{cuts_then, or_false, sends_then}
 use Rattle.gw_readers.specs.Confirms.{Confirms, IsRead, IsReaders, ReadsAll, confirmation_given, confirmation_in, confirmation_sent, confirmations_sent}
 
@@ -28,10 +29,10 @@ pub reads_then : (setup : Setup) (mine mid after : Pass) (x y z : Known Sending)
 reads_then setup mine mid after x y z a b first more = record {
   calls = first.calls ++ more.calls;
   made = calls_then setup mine mid after first.calls more.calls first.made more.made;
-  own = own_then (λ (c : Call). IsRead c.step) first.calls more.calls first.own more.own;
+  own = all-append (λ (c : Call). IsRead c.step) first.calls more.calls first.own more.own;
   sends = first.sends ++ more.sends;
   sent = sends_then x y z first.sends more.sends first.sent more.sent;
-  only = own_then (λ (s : Sending). IsReaders s.what) first.sends more.sends first.only more.only;
+  only = all-append (λ (s : Sending). IsReaders s.what) first.sends more.sends first.only more.only;
   same =
       sent_then first.sends more.sends
       ∙ (ap (λ (l : List (List ℕ)). l ++ confirmations_sent more.sends) first.same
@@ -44,17 +45,18 @@ pub reads_none : (setup : Setup) (mine : Pass) (x : Known Sending) → ReadsAll 
 reads_none setup mine x =
     record { calls = []; made = refl; own = tt; sends = []; sent = refl; only = tt; same = refl; cut_is = refl }
 
--- a reply of the link was sent
-pub reads_reply : (setup : Setup) (mine : Pass) (x y : Known Sending) (frame : List ℕ) (whole cut : Bool)
-    → IsSent x y (sents.Reply frame) whole → not whole ≡ cut → ReadsAll setup mine mine x y cut
-reads_reply setup mine x y frame whole cut sent cut_is = record {
+-- a frame of the link was sent
+pub reads_sent : (setup : Setup) (mine : Pass) (x y : Known Sending) (what : Sent) (whole cut : Bool)
+    → IsReaders what → confirmation_sent what ≡ [] → IsSent x y what whole → not whole ≡ cut
+    → ReadsAll setup mine mine x y cut
+reads_sent setup mine x y what whole cut only none sent cut_is = record {
   calls = [];
   made = refl;
   own = tt;
-  sends = record { what = sents.Reply frame; whole = whole } ∷ [];
+  sends = record { what = what; whole = whole } ∷ [];
   sent = (y, (sent, refl));
-  only = (tt, tt);
-  same = refl;
+  only = (only, tt);
+  same = ap (λ (l : List (List ℕ)). l ++ []) none;
   cut_is = or_false (not whole) ∙ cut_is;
 }
 

@@ -27,7 +27,7 @@ use Rattle.gw_ends.specs.declared.worker_end.WorkerEnd.TheVariants as ends
 use Rattle.gw_ends.proofs.Runs.{appends-more}
 use Rattle.gw_threads.specs.Calls.{Call, given_by}
 use Rattle.gw_threads.specs.Written.{TellsLoss}
-use Rattle.gw_threads.proofs.Calling.{calls_own, calls_then, given_then, own_then}
+use Rattle.gw_threads.proofs.Calling.{calls_own, calls_then, given_then, all-append}
 use Rattle.gw_readers.specs.Frames.{Asks, Frames, IsOf, Loses, MayLeave, Reads, Stepped, Takes, TakesAnswer, apdu_in, end_by}
 
 -- ---- octets in pieces
@@ -80,7 +80,7 @@ stepped_then setup client mine mid after x y z first more =
     record {
       calls = first.calls ++ more.calls;
       made = calls_then setup mine mid after first.calls more.calls first.made more.made;
-      own = own_then (λ (c : Call). IsOf client c.step) first.calls more.calls first.own more.own;
+      own = all-append (λ (c : Call). IsOf client c.step) first.calls more.calls first.own more.own;
       says =
           first.says
           ∙ (ap (reading_with_all_first a) more.says
@@ -334,7 +334,7 @@ framed_loss setup client mine mid after x y end first loss =
     record {
       calls = first.calls ++ down ∷ [];
       made = calls_then setup mine mid after first.calls (down ∷ []) first.made (after, (loss.1.1.1, refl));
-      own = own_then (λ (c : Call). IsOf client c.step) first.calls (down ∷ []) first.own (refl, tt);
+      own = all-append (λ (c : Call). IsOf client c.step) first.calls (down ∷ []) first.own (refl, tt);
       octets = first.octets;
       took = first.took;
       rest = first.rest;
@@ -357,6 +357,8 @@ framed_lost setup client mine mid after x y ends.WriteFault first loss =
     framed_loss setup client mine mid after x y ends.WriteFault first loss
 framed_lost setup client mine mid after x y ends.Unanswered first loss =
     framed_loss setup client mine mid after x y ends.Unanswered first loss
+framed_lost setup client mine mid after x y ends.LinkUnanswered first loss =
+    framed_loss setup client mine mid after x y ends.LinkUnanswered first loss
 framed_lost setup client mine mid after x y (ends.Malformed fault) first loss =
     framed_loss setup client mine mid after x y (ends.Malformed fault) first loss
 framed_lost setup client mine mid after x y ends.Memory first loss =

@@ -42,6 +42,7 @@ none_left (Some (ends.Closed why)) = refl
 none_left (Some ends.EndOfInput) = refl
 none_left (Some ends.ReadFault) = refl
 none_left (Some ends.Unanswered) = refl
+none_left (Some ends.LinkUnanswered) = refl
 none_left (Some ends.WriteFault) = tt
 none_left (Some (ends.Malformed fault)) = refl
 none_left (Some ends.Memory) = tt
@@ -55,6 +56,7 @@ any_left (ends.Closed why) left is = absurd is
 any_left ends.EndOfInput left is = absurd is
 any_left ends.ReadFault left is = absurd is
 any_left ends.Unanswered left is = absurd is
+any_left ends.LinkUnanswered left is = absurd is
 any_left (ends.Malformed fault) left is = absurd is
 
 said_so : (all other heard these : List Fragment) (result : Option WorkerEnd) → all ≡ other → heard ≡ these

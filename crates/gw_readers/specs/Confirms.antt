@@ -49,6 +49,7 @@ confirmations_sent (s ∷ sends) = confirmation_sent s.what ++ confirmations_sen
 -- a reader sends no request
 abbrev pub IsReaders : Sent → Type 0
 IsReaders (sents.Reply frame) = Unit {0}
+IsReaders sents.Status = Unit {0}
 IsReaders (sents.Confirm octets) = Unit {0}
 IsReaders (sents.Request request) = ⊥
 

@@ -5,6 +5,7 @@
 
 mod client_reading;
 pub mod examples;
+mod link_check;
 mod outstation_reading;
 
 pub use client_reading::client_reader;

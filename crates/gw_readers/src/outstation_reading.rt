@@ -2,10 +2,11 @@
 ghost use Rattle.std.specs.Prelude.{◌≡◌, ◌≤◌, ◌||◌, [], ◌∷◌, ◌++◌, length, option_to_list, Err, IfSome, MatchOption, Some};
 ghost use Rattle.dnp_link.specs.FrameContent.{content};
 ghost use Rattle.dnp_receive.specs.Delivery.{response_at};
-ghost use Rattle.gw_ends.specs.Ends.{is_read_fault, is_write_fault, IsOfFrames, MayEndBetween};
+ghost use Rattle.gw_ends.specs.Ends.{is_read_fault, is_write_fault, IsOfFrames, IsOfSilence, MayEndBetween};
 ghost use Rattle.gw_readers.specs.Confirms.{confirmation_in, Confirms, ReadsAll, ReadsOn};
 ghost use Rattle.gw_readers.specs.Heard.{Hears, HearsFrames, HearsOctets, HearsOf, HearsPiece, IsDrained};
 
+use crate::link_check::{LinkCheck, Look};
 use dnp_app::{AppFault, Response, read_response};
 use dnp_link::{Frame, LinkEvent, LinkFeed};
 use dnp_receive::Receiver;
@@ -15,6 +16,7 @@ use gw_threads::{
     lose_outstation, make_call,
 };
 use std::alloc::Global;
+use std::cell::Cell;
 use std::sync::Wait;
 use std::time::Duration;
 
@@ -34,6 +36,8 @@ pub struct Patience {
     pub for_clients: u64,
     /// For a fragment that is taken, while other octets come.
     pub for_answers: u64,
+    /// For octets, behind the request for the status of the link.
+    pub for_status: u64,
 }
 
 /// What the reader of an outstation works with.
@@ -62,6 +66,7 @@ struct Reading<
     patience: Patience,
     /// When a fragment was taken last, or the reader began, in milliseconds.
     heard: u64,
+    link: Cell<LinkCheck>,
     /// The octets of the last fragment, at the front.
     recent: [u8; LONGEST_FRAGMENT],
 }
@@ -69,8 +74,8 @@ struct Reading<
 /// Makes a step of each response that comes from an outstation, and sends what is owed for it: the replies of the
 /// link, and confirmations. It ends where its octets end, reading or writing fails, memory runs out, the outstation
 /// isn't up any more, or octets came but for too long none of them was a fragment that the core took; that is told to the
-/// core. Where a client that reads doesn't keep up with a fragment, it waits before it reads on, so that the outstation is
-/// held back; but no longer than its patience.
+/// core. Where nothing came for a minute it asks for the status of the link (`LinkCheck`). Where a client that reads doesn't keep
+/// up with a fragment, it waits before it reads on, so that the outstation is held back; but no longer than its patience.
 pub fn outstation_reader<
     'a,
     'b,
@@ -103,6 +108,7 @@ pub fn outstation_reader<
     // It ended by a failed read exactly where one failed, unless one had before.
     ensures failed { I.has_failed input.new ≡ (is_read_fault (Some result.2) || I.has_failed input.old) }
 {
+    let moment = clock.moment();
     let mut reading = Reading {
         alloc,
         rt,
@@ -114,7 +120,8 @@ pub fn outstation_reader<
         clock,
         gate,
         patience,
-        heard: clock.moment(),
+        heard: moment,
+        link: Cell::new(LinkCheck::new(patience.for_status, moment)),
         recent: [0; LONGEST_FRAGMENT],
     };
     let mut feed = LinkFeed::new(alloc);
@@ -162,7 +169,8 @@ impl<
     }
 
     /// One piece. How the worker ends, if it does.
-    #[tactic(auto, using(gw_ends::proofs::Failed::reading_fails, gw_ends::proofs::Failed::frames_read, crate::proofs::Confirming::reads_none))]
+    #[tactic(auto, using(gw_ends::proofs::Failed::reading_fails, gw_ends::proofs::Failed::frames_read,
+        gw_ends::proofs::Failed::silence_reads, crate::proofs::Confirming::reads_none))]
     fn read<I: Incoming>(
         &mut self,
         feed: &mut LinkFeed,
@@ -181,11 +189,15 @@ impl<
     {
         let arrival = input.receive(buffer);
         match arrival {
-            Arrival::Octets(count) => match self.take(feed, receiver, &buffer[..count]) {
-                None => self.unanswered(),
-                end => end,
-            },
-            Arrival::Later | Arrival::End | Arrival::Fault => arrival.end(),
+            Arrival::Octets(count) => {
+                self.hear_octets();
+                match self.take(feed, receiver, &buffer[..count]) {
+                    None => self.unanswered(),
+                    end => end,
+                }
+            }
+            Arrival::Later => self.look(),
+            Arrival::End | Arrival::Fault => arrival.end(),
         }
     }
 
@@ -199,6 +211,60 @@ impl<
             Some(WorkerEnd::Unanswered)
         } else {
             None
+        }
+    }
+
+    /// The outstation isn't silent.
+    fn hear_octets(&self) {
+        let mut link = self.link.get();
+        link.hear(self.clock.moment());
+        self.link.set(link);
+    }
+
+    /// Keeps that a frame tells the status of the link.
+    fn hear_status(&self, receiver: &Receiver, frame: &Frame) {
+        if receiver.is_status(frame) {
+            let mut link = self.link.get();
+            link.answer();
+            self.link.set(link);
+        }
+    }
+
+    /// Does what is due where nothing came. How the worker ends, if it does.
+    #[tactic(auto, using(crate::proofs::Confirming::reads_none))]
+    fn look(&mut self) -> Option<WorkerEnd>
+        ensures outstation { self.new.outstation ≡ self.old.outstation }
+        ensures pass { self.new.pass ≡ self.old.pass }
+        ensures confirmed { ReadsAll L.setup self.old.pass self.new.pass self.old.front self.new.front
+            (is_write_fault result) }
+        ensures end { IfSome result IsOfSilence }
+    {
+        let mut link = self.link.get();
+        let look = link.look(self.clock.moment());
+        self.link.set(link);
+        match look {
+            Look::Wait => None,
+            Look::Ask => self.ask_status(),
+            Look::Tell => {
+                self.gate.status_unanswered(self.outstation);
+                None
+            }
+            Look::Lose => Some(WorkerEnd::LinkUnanswered),
+        }
+    }
+
+    /// Asks for the status of the link. How the worker ends, if it does.
+    fn ask_status(&mut self) -> Option<WorkerEnd>
+        ensures outstation { self.new.outstation ≡ self.old.outstation }
+        ensures pass { self.new.pass ≡ self.old.pass }
+        ensures confirmed { ReadsAll L.setup self.old.pass self.new.pass self.old.front self.new.front
+            (is_write_fault result) }
+        ensures end { IfSome result IsOfSilence }
+    {
+        self.gate.at(self.pass.actor(), Place::BeforeWrite);
+        match self.line.ask_status(self.rt, &mut self.front) {
+            Ok(()) => None,
+            Err(_) => Some(WorkerEnd::WriteFault),
         }
     }
 
@@ -247,6 +313,7 @@ impl<
             (content frame.now ∷ []) result }
         ensures end { IfSome result IsOfFrames }
     {
+        self.hear_status(receiver, frame);
         let Ok(received) = receiver.take(frame) else {
             return Some(WorkerEnd::Memory);
         };

@@ -28,7 +28,7 @@ use Rattle.gw_shared.specs.Reached.{IsCourse, entries_of, entry}
 use Rattle.gw_shared.specs.Turn.{Pass}
 use Rattle.gw_ends.specs.declared.sent.Sending.{Sending}
 use Rattle.gw_threads.specs.Sends.{SendsAllGiven, is_poll, request_given}
-use Rattle.gw_threads.proofs.Calling.{own_then}
+use Rattle.gw_station.proofs.All.{all-append}
 use Rattle.gw_running.specs.Handed.{AreOnce, AreOrdered, HandsOver, requests_for}
 use Rattle.gw_running.proofs.Keeping.{course_promised}
 
@@ -200,7 +200,7 @@ unnamed_all : (setup : Setup) (o : ℕ) (past : List Entry) → AtEach (Bonds se
     → AllByRecursion IsNoOrder (requests_for o past)
 unnamed_all setup o [] each = tt
 unnamed_all setup o (e ∷ past) each =
-    own_then IsNoOrder (requests_for o past) (given_for o e) (unnamed_all setup o past each.1)
+    all-append IsNoOrder (requests_for o past) (given_for o e) (unnamed_all setup o past each.1)
     (unnamed_given o (executes setup past) e.step e.reply each.0.last)
 
 -- ---- the law

@@ -178,6 +178,7 @@ wider_end are also x y (ends.Closed why) is w = wider are also x y is w
 wider_end are also x y ends.EndOfInput is w = wider are also x y is w
 wider_end are also x y ends.ReadFault is w = wider are also x y is w
 wider_end are also x y ends.Unanswered is w = wider are also x y is w
+wider_end are also x y ends.LinkUnanswered is w = wider are also x y is w
 wider_end are also x y ends.WriteFault is w =
     record { apdus = w.apdus; asked = is w.apdus w.asked; count = w.count; taken = w.taken }
 wider_end are also x y (ends.Malformed fault) is w = wider are also x y is w

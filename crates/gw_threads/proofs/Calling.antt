@@ -1,6 +1,7 @@
 -- Calls that are made with a pass, one after another.
 use Rattle.std.proofs.Common.{◌≡◌, List, [], ◌∷◌, ◌++◌, Result, refl, sym, ap, subst, ◌∙◌, append_assoc}
 use Rattle.std.specs.List.{AllByRecursion}
+pub use Rattle.gw_station.proofs.All.{all-append}
 use Rattle.gw_map.specs.Settings.{Setup}
 use Rattle.gw_steps.specs.declared.step.Step.{Step}
 use Rattle.gw_steps.specs.declared.step.Reply.{Reply}
@@ -21,12 +22,6 @@ pub calls_own : (setup : Setup) (mine after : Pass) (calls : List Call) → AreC
 calls_own setup mine after [] made = ap (λ (p : Pass). p.actor) (sym made)
 calls_own setup mine after (c ∷ calls) made =
     calls_own setup made.0 after calls made.1.1 ∙ same_actor setup mine made.0 c.step (c.number, c.reply) made.1.0
-
--- what holds of each of some, and of each of others, holds of each of them together
-pub own_then : {A : Type 0} (holds : A → Type 0) (a b : List A) → AllByRecursion holds a → AllByRecursion holds b
-    → AllByRecursion holds (a ++ b)
-own_then holds [] b first more = more
-own_then holds (x ∷ a) b first more = (first.0, own_then holds a b first.1 more)
 
 pub given_then : {X : Type 0} (gives : Step → Result Reply StepFault → List X) (a b : List Call)
     → given_by gives (a ++ b) ≡ given_by gives a ++ given_by gives b

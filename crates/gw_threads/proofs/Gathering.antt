@@ -23,7 +23,7 @@ use Rattle.gw_threads.specs.Calls.{Call, given_by}
 use Rattle.gw_threads.specs.Written.{Asked, Asking, GivesTo, IsFor, IsPutOut, Settles, TellsLoss, Writes, WritesIfEnded, WritesPut, Wrote, WroteFront, apdu_given, gathered_by}
 use Rattle.gw_ends.specs.declared.worker_end.WorkerEnd.{WorkerEnd}
 use Rattle.gw_ends.specs.declared.worker_end.WorkerEnd.TheVariants as ends
-use Rattle.gw_threads.proofs.Calling.{calls_own, calls_then, given_then, own_then}
+use Rattle.gw_threads.proofs.Calling.{calls_own, calls_then, given_then, all-append}
 use Rattle.gw_threads.proofs.Carried.{pumped_carries}
 use Rattle.gw_ends.proofs.Runs.{appends-more}
 use Rattle.gw_ends.specs.declared.putting.Put.{Put}
@@ -34,12 +34,12 @@ pub asked_then : (setup : Setup) (client : ℕ) (mine mid after : Pass) (a b : L
 asked_then setup client mine mid after a b first more = record {
   calls = first.calls ++ more.calls;
   made = calls_then setup mine mid after first.calls more.calls first.made more.made;
-  own = own_then (λ (c : Call). IsFor client c.step) first.calls more.calls first.own more.own;
+  own = all-append (λ (c : Call). IsFor client c.step) first.calls more.calls first.own more.own;
   given =
       given_then apdu_given first.calls more.calls
       ∙ (ap (λ (l : List ApduBuf). l ++ given_by apdu_given more.calls) first.given
       ∙ ap (λ (l : List ApduBuf). a ++ l) more.given);
-  each = own_then (IsPutOut client) a b first.each more.each;
+  each = all-append (IsPutOut client) a b first.each more.each;
 }
 
 asked_none : (setup : Setup) (client : ℕ) (mine after : Pass) → mine ≡ after → Asked setup client mine after []
@@ -192,6 +192,8 @@ writes-then setup client mine mid after x y z ends.ReadFault first more =
     wrote-then setup client mine mid after x y z first more
 writes-then setup client mine mid after x y z ends.Unanswered first more =
     wrote-then setup client mine mid after x y z first more
+writes-then setup client mine mid after x y z ends.LinkUnanswered first more =
+    wrote-then setup client mine mid after x y z first more
 writes-then setup client mine mid after x y z ends.WriteFault first more =
     front-then setup client mine mid after x y z first more
 writes-then setup client mine mid after x y z (ends.Malformed fault) first more =
@@ -262,6 +264,7 @@ writes_own setup client mine after x y (ends.Closed why) w = calls_own setup min
 writes_own setup client mine after x y ends.EndOfInput w = calls_own setup mine after w.asked.calls w.asked.made
 writes_own setup client mine after x y ends.ReadFault w = calls_own setup mine after w.asked.calls w.asked.made
 writes_own setup client mine after x y ends.Unanswered w = calls_own setup mine after w.asked.calls w.asked.made
+writes_own setup client mine after x y ends.LinkUnanswered w = calls_own setup mine after w.asked.calls w.asked.made
 writes_own setup client mine after x y ends.WriteFault w = calls_own setup mine after w.asked.calls w.asked.made
 writes_own setup client mine after x y (ends.Malformed fault) w = calls_own setup mine after w.asked.calls w.asked.made
 writes_own setup client mine after x y ends.Memory w = calls_own setup mine after w.asked.calls w.asked.made

@@ -16,7 +16,7 @@ use Rattle.gw_ends.specs.Sent.{IsSent, is_cut_off}
 use Rattle.one_log.specs.Follows.{Known}
 use Rattle.gw_threads.specs.Calls.{Call, given_by}
 use Rattle.gw_threads.specs.Sends.{AreSent, IsTowards, PollsOnce, SentAll, TellsOutstationLoss, is_request, request_given}
-use Rattle.gw_threads.proofs.Calling.{calls_own, calls_then, given_then, own_then}
+use Rattle.gw_threads.proofs.Calling.{calls_own, calls_then, given_then, all-append}
 
 pub sends_then : (old mid new : Known Sending) (a b : List Sending) → AreSent old a mid → AreSent mid b new
     → AreSent old (a ++ b) new
@@ -48,7 +48,7 @@ pub sent_then : (setup : Setup) (outstation : ℕ) (mine mid after : Pass) (x y 
 sent_then setup outstation mine mid after x y z a b first more = record {
   calls = first.calls ++ more.calls;
   made = calls_then setup mine mid after first.calls more.calls first.made more.made;
-  own = own_then (λ (c : Call). IsTowards outstation c.step) first.calls more.calls first.own more.own;
+  own = all-append (λ (c : Call). IsTowards outstation c.step) first.calls more.calls first.own more.own;
   sends = first.sends ++ more.sends;
   sent = sends_then x y z first.sends more.sends first.sent more.sent;
   same =

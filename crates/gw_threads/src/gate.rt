@@ -30,6 +30,9 @@ pub trait Gate {
     /// A fragment of an outstation was read that has so many objects of kinds that aren't taken.
     fn passed_over(&self, _outstation: u8, _objects: u64) {}
 
+    /// An outstation doesn't answer the request for the status of its link, and isn't asked again.
+    fn status_unanswered(&self, _outstation: u8) {}
+
     /// A step is about to be made: the line that is kept of it, where steps are taken down.
     fn line_of(&self, _step: &Step) -> Option<Vec<u8>> {
         None

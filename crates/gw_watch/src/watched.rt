@@ -156,6 +156,12 @@ impl<'a, R: Wait, C: Clock, G: Gate> Gate for Watched<'a, R, C, G> {
         }
     }
 
+    fn status_unanswered(&self, outstation: u8) {
+        self.gate.status_unanswered(outstation);
+        self.desk
+            .tell(JournalEvent::LinkStatusUnanswered { outstation });
+    }
+
     fn line_of(&self, step: &Step) -> Option<Vec<u8>> {
         if let Step::Frame {
             client,

@@ -164,6 +164,7 @@ pub fn read_outstation<
         Patience {
             for_clients: 0,
             for_answers: u64::MAX,
+            for_status: u64::MAX,
         },
     );
     (pass, end)

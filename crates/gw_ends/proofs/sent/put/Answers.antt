@@ -1,4 +1,4 @@
-use Rattle.std.proofs.Common.{List, ℕ, ◌%◌, subst, sym, take}
+use Rattle.std.proofs.Common.{ℕ, ◌%◌, Bool, List, Option, subst, sym, take}
 use Rattle.std.specs.Prelude.{is_ok}
 use Rattle.std.specs.Io.KnownBytes.{Appends}
 use Rattle.dnp_transport.specs.Cut.{segments_of}
@@ -8,6 +8,11 @@ use Rattle.gw_ends.specs.Sent.{one_segment, part_of, sent_octets}
 use Rattle.gw_ends.proofs.Follow.{took_part}
 use Rattle.gw_ends.proofs.sent.put.Goals as goal
 
+-- a writer took the whole of it, or a front
+abbrev Takes : (own peer sequence : ℕ) (before after : Option (List ℕ)) (whole : Bool) → Sent → Type 0
+Takes own peer sequence before after whole what =
+    (count : ℕ) × Appends before after (part_of whole count (sent_octets own peer sequence what))
+
 pub returns-in-Reply-clause-took : goal.returns-in-Reply-clause-took
 returns-in-Reply-clause-took g c =
     let wire = c.args.wire.now in
@@ -15,9 +20,19 @@ returns-in-Reply-clause-took g c =
     let after = g.W.Outgoing.contents c.answer.new.self.writer in
     let r = c.answer.result in (
       wire.sequence,
-      subst (λ (what : Sent). (count : ℕ) × Appends before after (part_of (is_ok r) count (sent_octets wire.own wire.peer wire.sequence what)))
-          (sym c.in-Reply.is)
+      subst (Takes wire.own wire.peer wire.sequence before after (is_ok r)) (sym c.in-Reply.is)
           (took_part before after _ r c.answer.ensures.ok c.answer.ensures.front),
+    )
+
+pub returns-in-Status-clause-took : goal.returns-in-Status-clause-took
+returns-in-Status-clause-took g c =
+    let wire = c.args.wire.now in
+    let before = g.W.Outgoing.contents wire.writer in
+    let after = g.W.Outgoing.contents c.ask_status.new.self.writer in
+    let r = c.ask_status.result in (
+      wire.sequence,
+      subst (Takes wire.own wire.peer wire.sequence before after (is_ok r)) (sym c.in-Status.is)
+          (took_part before after _ r c.ask_status.ensures.ok c.ask_status.ensures.front),
     )
 
 pub returns-in-Confirm-clause-took : goal.returns-in-Confirm-clause-took
@@ -27,8 +42,7 @@ returns-in-Confirm-clause-took g c =
     let after = g.W.Outgoing.contents c.send.new.self.writer in
     let r = c.send.result in (
       wire.sequence,
-      subst (λ (what : Sent). (count : ℕ) × Appends before after (part_of (is_ok r) count (sent_octets wire.own wire.peer wire.sequence what)))
-          (sym c.in-Confirm.is)
+      subst (Takes wire.own wire.peer wire.sequence before after (is_ok r)) (sym c.in-Confirm.is)
           (took_part before after _ r c.send.ensures.ok c.send.ensures.front),
     )
 
@@ -40,11 +54,10 @@ returns-in-Request-clause-took g c =
     let octets : List ℕ = c.as_slice-octets.result.now in
     let of : List ℕ → List ℕ = λ fragment. framed wire.own wire.peer (segments_of fragment (wire.sequence % 64)) in
     let r = c.send-in-Request.result in
-    let Takes : List ℕ → Type 0 = λ fragment. (count : ℕ) × Appends before after (part_of (is_ok r) count (of fragment)) in (
+    let Parts : List ℕ → Type 0 = λ fragment. (count : ℕ) × Appends before after (part_of (is_ok r) count (of fragment)) in (
       wire.sequence,
-      subst (λ (what : Sent). (count : ℕ) × Appends before after (part_of (is_ok r) count (sent_octets wire.own wire.peer wire.sequence what)))
-          (sym c.in-Request.is)
-          (subst (λ (fragment : List ℕ). Takes (one_segment fragment)) c.as_slice-octets.ensures
-          (subst (λ (n : ℕ). Takes (take n octets)) c.min.ensures
+      subst (Takes wire.own wire.peer wire.sequence before after (is_ok r)) (sym c.in-Request.is)
+          (subst (λ (fragment : List ℕ). Parts (one_segment fragment)) c.as_slice-octets.ensures
+          (subst (λ (n : ℕ). Parts (take n octets)) c.min.ensures
           (took_part before after _ r c.send-in-Request.ensures.ok c.send-in-Request.ensures.front))),
     )
