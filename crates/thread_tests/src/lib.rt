@@ -1,6 +1,5 @@
-//! Tests of the shared core, its recorder and the workers round it, and of the server over the loopback, through their
-//! public calls: that these end, what they hand over, and that they go on beside one another, of which no contract
-//! tells. `.ci/serve` has what the built program does.
+//! Tests of the shared core, its recorder and the workers round it, through their public calls: that these end, what they hand
+//! over, and that they go on beside one another, of which no contract tells.
 #![tactic(auto)]
 
 #[cfg(test)]
@@ -12,11 +11,7 @@ mod held;
 #[cfg(test)]
 mod kept;
 #[cfg(test)]
-mod loopback;
-#[cfg(test)]
 mod recorder;
-#[cfg(test)]
-mod seen;
 #[cfg(test)]
 mod sent;
 #[cfg(test)]
