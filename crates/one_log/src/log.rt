@@ -330,7 +330,11 @@ impl<E, J: Naming> Head<E, J> {
         let _found = self
             .word
             .compare_exchange::<Add, Nothing>(0, 1, &mut now, &mut offer, &mut self.pen);
-        let Visiting { own: _, adds: _, pen } = visiting;
+        let Visiting {
+            own: _,
+            adds: _,
+            pen,
+        } = visiting;
         self.pen = pen;
         self.seen = now.again();
         mine.seen = now;
