@@ -74,6 +74,7 @@ impl ClientFigures {
             Cause::EndOfInput
             | Cause::Silent { .. }
             | Cause::Unanswered
+            | Cause::LinkUnanswered
             | Cause::Slow { .. }
             | Cause::NotRead(_)
             | Cause::NotWritten(_)
