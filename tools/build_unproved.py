@@ -15,7 +15,9 @@ import tempfile
 import time
 from pathlib import Path
 
-from building import NO_PROGRAM, ROOT, UNPROVED, Line, alone, install, is_fresh, run_builder, started, tell
+from building import (
+    NO_PROGRAM, ROOT, UNPROVED, Line, alone, install, is_fresh, path_without_hints, run_builder, started, tell,
+)
 
 # How many seconds it takes on an idle processor, where it isn't known of an earlier build.
 USUAL = 85
@@ -89,7 +91,7 @@ def build_in(room, begun):
         return NO_PROGRAM
     pipe = f"{room}/settings"
     os.mkfifo(pipe)
-    environment = dict(os.environ, TMPDIR=room)
+    environment = dict(os.environ, TMPDIR=room, PATH=path_without_hints())
     with open(LOG, "w") as log:
         words = ["rt", "try", "--steps", "1", "--", "check", pipe]
         with started(words, cwd=ROOT / "crates/gw_program", env=environment, stdout=log, stderr=log) as process:

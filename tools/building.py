@@ -56,6 +56,11 @@ def want_proved():
         sys.exit(f"{sys.argv[0]}: no proved program of these sources stands: ./gateway --prove proves and builds it")
 
 
+def path_without_hints():
+    """The PATH of a build without proof, of which no check of names takes a processor (tools/without_hints/sh)."""
+    return f"{ROOT}/tools/without_hints:{os.environ.get('PATH', os.defpath)}"
+
+
 def toolchain():
     """What the toolchain calls itself."""
     asked = 'root=$1; . "$1/tools/freshness.sh"; toolchain'

@@ -15,7 +15,7 @@ from dataclasses import dataclass, field
 from pathlib import Path
 
 import build_unproved
-from building import PROVED, ROOT, UNPROVED, is_fresh, run_builder
+from building import PROVED, ROOT, UNPROVED, is_fresh, path_without_hints, run_builder
 
 LOGS = ROOT / "out/test"
 # The crates of tests; those that take longest come first.
@@ -75,7 +75,7 @@ def scripts(program, is_proved):
 
 def tests():
     """The tests of the crates, without proof."""
-    environment = {"RT_SECONDS": str(TEST_LIMIT)}
+    environment = {"RT_SECONDS": str(TEST_LIMIT), "PATH": path_without_hints()}
     return [Part(it, ["rt", "try", "--test", "--steps", "1"], ROOT / "crates" / it, environment) for it in CRATES]
 
 
