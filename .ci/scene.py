@@ -29,6 +29,7 @@ TICK, PAUSE, LOOK = 0.1, 1.0, 0.25
 # Lines that are passed over, but in cases that are about them.
 TRANSFERS = r"client \d \S+ data transfer (started|stopped)"
 COUNTS = r"outstation \d+ \S+ \d+ (requests? unanswered|octets? skipped by the link)"
+STRAYS = r"outstation \d+ \S+ a frame (from link address|of function) \d+ .+; .+"
 TAKEN, FREE = "all eight places are taken", "a place is free"
 OTHER_HOST = "127.0.0.2"
 GAVE_WAY = "closed: gave way to a newer connection of its address"
@@ -51,6 +52,7 @@ KINDS = {
         r"\d+ events? left out",
         *(rf"outstation \d+ \S+ {re.escape(it)}" for it in TROUBLES),
         COUNTS,
+        STRAYS,
         r"outstation \d+ \S+ unreadable: .+",
         r"outstation \d+ \S+ doesn't answer a link status",
         r"outstation \d+ \S+ \d+ objects? passed over, of kinds that aren't taken",

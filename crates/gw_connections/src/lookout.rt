@@ -40,6 +40,9 @@ fn tell_of_outstation<R: Wait, C: Clock>(desk: &Desk<'_, R, C>, outstation: u8, 
     if let Some(count) = due.skipped {
         desk.tell(JournalEvent::OctetsSkipped { outstation, count });
     }
+    if let Some(frames) = due.strayed {
+        desk.tell(JournalEvent::FramesStrayed { outstation, frames });
+    }
     if let Some(count) = due.passed_over {
         desk.tell(JournalEvent::ObjectsPassedOver { outstation, count });
     }

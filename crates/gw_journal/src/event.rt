@@ -4,6 +4,7 @@ use crate::cause::Cause;
 use crate::control_event::{CommandEvent, OrderEvent};
 use crate::doubt::Doubt;
 use crate::failure::Failure;
+use crate::stray::StrayFrames;
 use crate::unreadable::Unreadable;
 use gw_text::RecordEnd;
 use iec_command::Command;
@@ -103,6 +104,13 @@ pub enum JournalEvent {
     LinkStatusUnanswered {
         /// The outstation.
         outstation: u8,
+    },
+    /// Frames came on the outstation's connection that it doesn't send to its master.
+    FramesStrayed {
+        /// The outstation.
+        outstation: u8,
+        /// The last one, and how many more.
+        frames: StrayFrames,
     },
     /// Objects of kinds that aren't taken came of the outstation.
     ObjectsPassedOver {
@@ -232,6 +240,7 @@ impl JournalEvent {
             | JournalEvent::FragmentRefused { .. }
             | JournalEvent::OctetsSkipped { .. }
             | JournalEvent::LinkStatusUnanswered { .. }
+            | JournalEvent::FramesStrayed { .. }
             | JournalEvent::ObjectsPassedOver { .. }
             | JournalEvent::ClientLost { .. }
             | JournalEvent::NewsDropped { .. }
@@ -255,6 +264,7 @@ impl JournalEvent {
             | JournalEvent::FragmentRefused { outstation, .. }
             | JournalEvent::OctetsSkipped { outstation, .. }
             | JournalEvent::LinkStatusUnanswered { outstation }
+            | JournalEvent::FramesStrayed { outstation, .. }
             | JournalEvent::ObjectsPassedOver { outstation, .. }
             | JournalEvent::Order { outstation, .. } => Subject::Outstation(*outstation),
             JournalEvent::ClientConnected { client, address }

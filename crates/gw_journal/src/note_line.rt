@@ -215,6 +215,7 @@ impl<'a> fmt::Display for OutstationWords<'a> {
             JournalEvent::OctetsSkipped { count, .. } => {
                 return write_counted(f, *count, "octet", "skipped by the link");
             }
+            JournalEvent::FramesStrayed { frames, .. } => return fmt::Display::fmt(frames, f),
             JournalEvent::ObjectsPassedOver { count, .. } => {
                 return write_counted(
                     f,

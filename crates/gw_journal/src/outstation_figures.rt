@@ -1,9 +1,10 @@
 //! The figures of an outstation.
 
+use crate::stray::{StrayFrame, StrayFrames};
 use crate::throttle::Throttle;
 use crate::unreadable::Unreadable;
 
-/// The milliseconds between two tellings of unanswered requests, and of skipped octets.
+/// The milliseconds between two tellings of unanswered requests, of skipped octets, and of stray frames.
 const MINUTE_MS: u64 = 60_000;
 
 /// The milliseconds between two tellings of objects that were passed over.
@@ -57,6 +58,9 @@ pub struct OutstationFigures {
     unanswered_told: Throttle,
     skipped_told: Throttle,
     passed_over_told: Throttle,
+    stray_told: Throttle,
+    /// The last stray frame that wasn't told.
+    last_stray: Option<StrayFrame>,
     refused_told: Throttle,
     /// Why the last fragment was refused that wasn't told.
     last_refused: Option<Unreadable>,
@@ -105,6 +109,8 @@ pub struct DueNotes {
     pub skipped: Option<u64>,
     /// So many objects were passed over.
     pub passed_over: Option<u64>,
+    /// Frames came that the outstation doesn't send to its master.
+    pub strayed: Option<StrayFrames>,
     /// Fragments were refused and not told.
     pub refused: Option<Refused>,
 }
@@ -145,6 +151,8 @@ impl OutstationFigures {
             unanswered_told: Throttle::new(MINUTE_MS),
             skipped_told: Throttle::new(MINUTE_MS),
             passed_over_told: Throttle::new(HOUR_MS),
+            stray_told: Throttle::new(MINUTE_MS),
+            last_stray: None,
             refused_told: Throttle::new(SECOND_MS),
             last_refused: None,
         }
@@ -257,6 +265,12 @@ impl OutstationFigures {
         self.skipped_told.add(octets);
     }
 
+    /// A frame came that the outstation doesn't send to its master.
+    pub fn strayed(&mut self, frame: StrayFrame) {
+        self.last_stray = Some(frame);
+        self.stray_told.add(1);
+    }
+
     /// Objects came of kinds that aren't taken.
     pub fn passed_over(&mut self, objects: u64) {
         self.passed_over_told.add(objects);
@@ -273,8 +287,20 @@ impl OutstationFigures {
             unanswered: self.unanswered_told.pending(wall),
             skipped: self.skipped_told.pending(wall),
             passed_over: self.passed_over_told.pending(wall),
+            strayed: self.stray_due(wall),
             refused: self.refused_due(wall),
         }
+    }
+
+    /// The stray frames that are due to be told.
+    fn stray_due(&mut self, wall: u64) -> Option<StrayFrames> {
+        let last = self.last_stray?;
+        let count = self.stray_told.pending(wall)?;
+        self.last_stray = None;
+        Some(StrayFrames {
+            last,
+            left_out: count.saturating_sub(1),
+        })
     }
 
     /// The refused fragments that are due to be told.

@@ -1,7 +1,8 @@
 //! What is known of each peer, outside the core's lock.
 
 use crate::hold::Hold;
-use gw_journal::{ClientFigures, DueNotes, OutstationFigures};
+use crate::plan::Plan;
+use gw_journal::{ClientFigures, DueNotes, OutstationFigures, StrayFrame, Way};
 use gw_model::Memory;
 use std::alloc::Global;
 use std::net::{IpAddr, SocketAddr};
@@ -11,9 +12,27 @@ use std::sync::{Mutex, Wait};
 #[derive(Drop)]
 pub struct OutstationCard {
     pub figures: Mutex<OutstationFigures>,
+    /// From which link address to which its frames go.
+    way: Way,
 }
 
 impl OutstationCard {
+    /// Nothing is known of an outstation whose frames go this way.
+    fn new(way: Way) -> OutstationCard {
+        OutstationCard {
+            figures: Mutex::new(OutstationFigures::new()),
+            way,
+        }
+    }
+
+    /// A frame of the link came on its connection, with this CONTROL octet. It is noted where the outstation doesn't send
+    /// such a frame to its master.
+    pub fn received<R: Wait>(&self, rt: &R, control: u8, way: Way) {
+        if let Some(frame) = StrayFrame::of(control, way, self.way) {
+            self.figures.lock(rt).strayed(frame);
+        }
+    }
+
     /// What is due to be told of it.
     pub fn due<R: Wait>(&self, rt: &R, wall: u64) -> DueNotes {
         self.figures.lock(rt).due(wall)
@@ -107,13 +126,11 @@ pub struct Board {
 }
 
 impl Board {
-    /// Nothing is known of so many outstations and clients.
-    pub fn new(alloc: Global, outstations: usize, clients: u8) -> Result<Board, Memory> {
-        let mut cards = Vec::with_capacity(alloc, outstations)?;
-        for _ in 0..outstations {
-            cards.push(OutstationCard {
-                figures: Mutex::new(OutstationFigures::new()),
-            })?;
+    /// Nothing is known of the outstations that these are the ways to, and of so many clients.
+    pub fn new(alloc: Global, plans: &[Plan], clients: u8) -> Result<Board, Memory> {
+        let mut cards = Vec::with_capacity(alloc, plans.len())?;
+        for plan in plans {
+            cards.push(OutstationCard::new(plan.way()))?;
         }
         Ok(Board {
             outstations: cards,

@@ -1,7 +1,7 @@
 //! What the settings say of the connections.
 ghost use Rattle.std.specs.Prelude.{◌<◌};
 
-use gw_journal::{Cause, Failure};
+use gw_journal::{Cause, Failure, Way};
 use gw_map::Settings;
 use gw_model::Memory;
 use std::alloc::Global;
@@ -32,6 +32,14 @@ pub struct Plan {
 }
 
 impl Plan {
+    /// From which link address to which the outstation's frames go.
+    pub fn way(&self) -> Way {
+        Way {
+            source: self.peer,
+            destination: self.own,
+        }
+    }
+
     /// How long connecting may take.
     pub fn connecting(&self) -> Duration {
         self.response

@@ -12,7 +12,7 @@ use dnp_link::{Frame, LinkEvent, LinkFeed};
 use dnp_receive::Receiver;
 use gw_ends::{Arrival, Front, Incoming, Line, LineCourse, Outgoing, Sending, WorkerEnd};
 use gw_threads::{
-    Bell, Calls, Clock, Course, Gate, Pass, Place, Reply, Step, StepFault, Verdict,
+    Bell, Calls, Clock, Course, FrameHeader, Gate, Pass, Place, Reply, Step, StepFault, Verdict,
     lose_outstation, make_call,
 };
 use std::alloc::Global;
@@ -314,6 +314,7 @@ impl<
         ensures end { IfSome result IsOfFrames }
     {
         self.hear_status(receiver, frame);
+        self.tell_header(frame);
         let Ok(received) = receiver.take(frame) else {
             return Some(WorkerEnd::Memory);
         };
@@ -321,6 +322,16 @@ impl<
             return Some(end);
         }
         self.take_fragment(received.fragment?)
+    }
+
+    /// Tells the gate of a frame, which the receiver passes over where it isn't from the outstation to the master.
+    fn tell_header(&self, frame: &Frame) {
+        let header = FrameHeader {
+            control: frame.control,
+            source: frame.source,
+            destination: frame.destination,
+        };
+        self.gate.received(self.outstation, &header);
     }
 
     /// Sends the reply that the link owes, if it owes one. How the worker ends, if it does.

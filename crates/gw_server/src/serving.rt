@@ -118,7 +118,7 @@ pub fn serve_as<R: Host, C: Clock + Sync, G: Gate + Sync>(
 /// The ways to the outstations, and a board with a card for each of them and for each client.
 fn plans_and_board(alloc: Global, settings: &Settings) -> Result<(Vec<Plan>, Board), Memory> {
     let plans = plans_of(alloc, settings)?;
-    let board = Board::new(alloc, plans.len(), CLIENTS)?;
+    let board = Board::new(alloc, &plans, CLIENTS)?;
     Ok((plans, board))
 }
 

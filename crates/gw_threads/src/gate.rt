@@ -15,6 +15,17 @@ pub enum Place {
     BeforeWrite,
 }
 
+/// What the header of a frame of the link says of its way (IEEE Std 1815-2012, clause 9.2.4).
+#[derive(Clone, Copy)]
+pub struct FrameHeader {
+    /// The CONTROL octet.
+    pub control: u8,
+    /// The link address that the frame comes from.
+    pub source: u16,
+    /// The link address that it is for.
+    pub destination: u16,
+}
+
 /// What is told of the workers' ways, where no lock is held. A call that takes its time holds the worker. All but
 /// `at` may be left out.
 pub trait Gate {
@@ -26,6 +37,9 @@ pub trait Gate {
 
     /// The link dropped so many octets of an outstation, at which no frame begins.
     fn skipped(&self, _outstation: u8, _octets: u32) {}
+
+    /// A frame of the link came on the connection of an outstation, whoever sent it, and whoever it is for.
+    fn received(&self, _outstation: u8, _header: &FrameHeader) {}
 
     /// A fragment of an outstation was read that has so many objects of kinds that aren't taken.
     fn passed_over(&self, _outstation: u8, _objects: u64) {}

@@ -16,7 +16,7 @@ mod ticking;
 
 pub use call::{About, Call, Run, control_command, make_call};
 pub use client_writing::client_writer;
-pub use gate::{Gate, OpenGate, Place};
+pub use gate::{FrameHeader, Gate, OpenGate, Place};
 pub use gw_clock::Clock;
 pub use gw_ends::{
     Arrival, Batch, Front, Gathered, Head, Incoming, Line, LineCourse, Outgoing, Put, Sending,

@@ -3,9 +3,9 @@
 
 use crate::controls::{tell_of_commands, tell_of_controls};
 use dnp_app::AppFault;
-use gw_journal::{JournalEvent, Noticed, Unreadable};
+use gw_journal::{JournalEvent, Noticed, Unreadable, Way};
 use gw_peers::Desk;
-use gw_threads::{About, Call, Clock, Gate, Place, Reply, Run, Step, Verdict};
+use gw_threads::{About, Call, Clock, FrameHeader, Gate, Place, Reply, Run, Step, Verdict};
 use iec_apci::{Apdu, Signal};
 use std::sync::Wait;
 
@@ -146,6 +146,22 @@ impl<'a, R: Wait, C: Clock, G: Gate> Gate for Watched<'a, R, C, G> {
         self.gate.skipped(outstation, octets);
         if let Some(card) = self.desk.board.outstation(outstation) {
             card.figures.lock(self.desk.rt).skipped(u64::from(octets));
+        }
+    }
+
+    fn received(&self, outstation: u8, header: &FrameHeader) {
+        self.gate.received(outstation, header);
+        let FrameHeader {
+            control,
+            source,
+            destination,
+        } = *header;
+        if let Some(card) = self.desk.board.outstation(outstation) {
+            let way = Way {
+                source,
+                destination,
+            };
+            card.received(self.desk.rt, control, way);
         }
     }
 
