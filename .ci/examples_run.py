@@ -7,7 +7,8 @@ gives to who connects, digests, counts of steps. Lines that begin with a time ma
 write them. A last line `..` stands for whatever else is written: such a command goes on beside those below it, to the
 next heading. Commands run in a folder of their own, which has links to all that is here. The environment variable
 GATEWAY has what is run for `./gateway`, and for `./gateway --unproved`, by an absolute path. The line by which `./gateway` says
-that its program isn't proved is passed over. Ends with status 1 where anything differs.
+that its program isn't proved is passed over, and so is one that says that the host stood still. Ends with status 1 where
+anything differs.
 """
 import difflib
 import errno
@@ -31,7 +32,7 @@ VARIES = re.compile(r"\d{4}-\d\d-\d\d|\d\d:\d\d:\d\d(\.\d{3})?|(?<=127\.0\.0\.1:
 # first line of one that goes on.
 LIMIT, PAUSE = 15, 1
 PORTS = (2404, 8080, 20000)
-UNPROVED = "gateway: this program isn't proved"
+PASSED_OVER = re.compile(r"gateway: this program isn't proved|\S+Z the host stood still for ")
 
 
 class Command:
@@ -73,7 +74,7 @@ class Command:
                     self.process.wait(2)
 
     def differs(self):
-        lines = [it for it in self.written().splitlines() if not it.startswith(UNPROVED)]
+        lines = [it for it in self.written().splitlines() if not PASSED_OVER.match(it)]
         got = [VARIES.sub("~", line) for line in (lines[: len(self.wanted)] if self.goes_on else lines)]
         has_times = any(re.match("~", line) for line in self.wanted)
         if got == self.wanted or has_times and sorted(got) == sorted(self.wanted):

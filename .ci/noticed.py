@@ -1,10 +1,16 @@
-"""Cases of `.ci/serve`: what the gateway notices of its surroundings: frames that an outstation doesn't send to its master."""
-from peers import INTEGRITY, MASTER_USER_DATA, frame, response, same
-from scene import ON, case
+"""Cases of `.ci/serve`: what the gateway notices of its surroundings: frames that an outstation doesn't send to its master, and
+a standstill of the host."""
+import signal
+import time
+
+from peers import EVENTS, INTEGRITY, MASTER_USER_DATA, confirmation, frame, response, same
+from scene import BINARY_ON, LOOK, ON, TICK, TRANSFERS, case, inputs
 from told import LOOKS, MINUTE, WALL
 
 # User data without an object, which are delivered where they come from the outstation to its master.
 USER = b"\xC0" + response(0)
+# How often a host stands still in a row, for how many seconds, and t1 and the time for an answer, in milliseconds.
+TRIES, STANDSTILL, SHORTER_MS = 7, 3, 2000
 
 
 def taken(link):
@@ -76,3 +82,40 @@ def wrong_prm(scene):
     link.write(frame(b"", 0x4B))
     same("an answer of the link", link.frame(), (0x8F, b""))
     scene.told(f"{outstation.name} a frame of function 11 with PRM 1 came; PRM 0 is expected")
+
+
+def stand_still(scene, meanwhile):
+    """The gateway stands still, as with its host, and something happens meanwhile."""
+    scene.process.send_signal(signal.SIGSTOP)
+    time.sleep(TICK)
+    meanwhile()
+    time.sleep(STANDSTILL - TICK)
+    scene.process.send_signal(signal.SIGCONT)
+
+
+@case
+def standstill(scene):
+    """behind a standstill of the host, which is told, what came in time is taken before t1 and the time for an answer are
+    judged, so no control centre is closed, and no request counts as unanswered; also where the next one follows at once"""
+    scene.is_made_to_stand, scene.passed_over = True, TRANSFERS
+    outstation = scene.outstation(response_ms=SHORTER_MS)
+    scene.start(t1_ms=SHORTER_MS, t2_ms=SHORTER_MS // 2)
+    link, centre = scene.accept(outstation), scene.started()
+    event = lambda number: response(number, inputs(1), con=True, iin=0x02)
+
+    def arrive(number):
+        """The answer to the request under way comes, and an acknowledgement of the I format under way."""
+        link.send(event(number))
+        centre.acknowledge()
+
+    link.send(event(0))
+    for number in range(TRIES + 1):
+        link.wants(confirmation(event(number)))
+        link.request(number + 1, EVENTS)
+        centre.takes(BINARY_ON)
+        if number < TRIES:
+            # The clock has ticked since it began, or since the standstill before; behind each second one it mostly hasn't.
+            if number % 2 == 0:
+                time.sleep(LOOK)
+            stand_still(scene, lambda: arrive(number + 1))
+            scene.told("the host stood still for #.# s")

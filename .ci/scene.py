@@ -30,6 +30,8 @@ TICK, PAUSE, LOOK = 0.1, 1.0, 0.25
 TRANSFERS = r"client \d \S+ data transfer (started|stopped)"
 COUNTS = r"outstation \d+ \S+ \d+ (requests? unanswered|octets? skipped by the link)"
 STRAYS = r"outstation \d+ \S+ a frame (from link address|of function) \d+ .+; .+"
+# A busy host may stand still at any time, so this is passed over, too, but where it is made to.
+STANDSTILL = r"the host stood still for \d+\.\d s"
 TAKEN, FREE = "all eight places are taken", "a place is free"
 OTHER_HOST = "127.0.0.2"
 GAVE_WAY = "closed: gave way to a newer connection of its address"
@@ -47,6 +49,7 @@ KINDS = {
         r"the address of outstation \d+, .+, has no port",
         r"outstations \d+ and \d+ are both reached at .+, and have the same link address",
         TAKEN,
+        STANDSTILL,
         r"[\d.]+ isn't allowed to connect(, and \d+ more)?",
         r"the recording ended at step \d+: .+",
         r"\d+ events? left out",
@@ -192,6 +195,7 @@ class Scene:
         self.outstations, self.links, self.centres = {}, {}, []
         self.process = self.witness = None
         self.notes, self.noted, self.passed_over = [], threading.Condition(), f"{TRANSFERS}|{COUNTS}"
+        self.is_made_to_stand = False
         self.file = tempfile.NamedTemporaryFile("w", suffix=".toml")
         SCENES.append(self)
 
@@ -262,9 +266,12 @@ class Scene:
         for line in self.process.stderr:
             text, at = self.note_in(line.rstrip("\n"))
             with self.noted:
-                if not re.fullmatch(self.passed_over, text):
+                if not self.passes_over(text):
                     self.notes.append((text, at))
                     self.noted.notify_all()
+
+    def passes_over(self, text):
+        return re.fullmatch(self.passed_over, text) or not self.is_made_to_stand and re.fullmatch(STANDSTILL, text)
 
     def note_in(self, line):
         """A line behind its priority and its time, which are those that it has to have; and that time."""

@@ -193,6 +193,11 @@ pub enum JournalEvent {
     NotAccepted(Failure),
     /// The recording ended.
     RecordingEnded(RecordEnd),
+    /// The host stood still, as far as the gateway's clock tells.
+    HostStoodStill {
+        /// How long no tick was made.
+        milliseconds: u64,
+    },
     /// So many events weren't told, since they came faster than they were written.
     LeftOut(u64),
     /// So many events of controls weren't.
@@ -247,6 +252,7 @@ impl JournalEvent {
             | JournalEvent::AllPlacesTaken
             | JournalEvent::NotAllowed { .. }
             | JournalEvent::RecordingEnded(_)
+            | JournalEvent::HostStoodStill { .. }
             | JournalEvent::LeftOut(_) => Priority::Warning,
         }
     }

@@ -142,6 +142,7 @@ impl<'a> Happened<'a> {
             }
             JournalEvent::NotAccepted(cause) => write_said(f, "no connection accepted:", cause),
             JournalEvent::RecordingEnded(ended) => write_said(f, "the", ended),
+            JournalEvent::HostStoodStill { milliseconds } => write_standstill(f, *milliseconds),
             JournalEvent::LeftOut(count) => write_counted(f, *count, "event", "left out"),
             JournalEvent::ControlsLeftOut(count) => {
                 write_counted(f, *count, "event", "of controls left out")
@@ -279,6 +280,12 @@ fn write_not_allowed<W: fmt::Write>(
 ) -> fmt::Result {
     let more = AndMore(left_out);
     write!(f, "{address} isn't allowed to connect{more}")
+}
+
+/// Writes that the host stood still, and for how many seconds.
+fn write_standstill<W: fmt::Write>(f: &mut fmt::Formatter<W>, milliseconds: u64) -> fmt::Result {
+    let (seconds, tenths) = (milliseconds / 1000, milliseconds % 1000 / 100);
+    write!(f, "the host stood still for {seconds}.{tenths} s")
 }
 
 /// Writes that the address of an outstation has no port.

@@ -57,6 +57,9 @@ pub trait Gate {
 
     /// A run of pumps was made.
     fn pumped(&self, _run: &Run<'_>) {}
+
+    /// The host stood still: so many milliseconds have passed since the last tick.
+    fn stood_still(&self, _milliseconds: u64) {}
 }
 
 /// A gate that holds nobody.

@@ -11,6 +11,7 @@ pub mod laws;
 mod lost;
 mod outstation_writing;
 mod source;
+mod standstill;
 mod streak;
 mod ticking;
 

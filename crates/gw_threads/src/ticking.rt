@@ -3,6 +3,7 @@ ghost use Rattle.std.specs.Prelude.{◌≡◌};
 
 use crate::call::make_call;
 use crate::gate::Gate;
+use crate::standstill::Turns;
 use gw_clock::Clock;
 use gw_ends::WorkerEnd;
 use gw_shared::{Calls, Course, Pass, Step};
@@ -14,13 +15,18 @@ use std::time::Duration;
 /// The milliseconds from one tick to the next.
 const TICK_MS: u64 = 100;
 
+/// The milliseconds from a standstill of the host, once it is known, to the next tick.
+const CATCHING_UP_MS: u64 = 200;
+
 /// The milliseconds of a piece of a pause, after each of which the server may end.
 const PIECE_MS: u64 = 100;
 
 /// How many pieces a second has.
 const PIECES: u32 = 10;
 
-/// Makes a tick every 100 milliseconds, until it is asked to end or no further step can be counted.
+/// Makes a tick every 100 milliseconds, until it is asked to end or no further step can be counted. Behind a standstill of
+/// the host, of which the gate is told, the readers first have 200 milliseconds to take what came meanwhile: only ticks
+/// judge what is late.
 pub fn clock<L: Course, S: Calls<L>, R: Wait + Sleeps, C: Clock, G: Gate>(
     rt: &R,
     shared: &S,
@@ -32,27 +38,39 @@ pub fn clock<L: Course, S: Calls<L>, R: Wait + Sleeps, C: Clock, G: Gate>(
     ensures end { result.1 ≡ WorkerEnd.Stopping }
 {
     let mut pass = pass;
+    let mut turns = Turns::new(clock.moment());
     'ticks: for _ in rt.forever() {
-        if shared.stopping() || !tick(rt, shared, &mut pass, clock, gate) {
+        let Some(rest) = take_turn(rt, shared, &mut pass, &mut turns, clock, gate) else {
             break;
-        }
-        thread::sleep(rt, Duration::from_millis(TICK_MS));
+        };
+        thread::sleep(rt, Duration::from_millis(rest));
     }
     (pass, WorkerEnd::Stopping)
 }
 
-/// Makes a tick; whether it was made.
-fn tick<L: Course, S: Calls<L>, R: Wait, C: Clock, G: Gate>(
+/// Makes a tick, or puts it off behind a standstill. How many milliseconds later the next turn comes, if one does.
+fn take_turn<L: Course, S: Calls<L>, R: Wait, C: Clock, G: Gate>(
     rt: &R,
     shared: &S,
     pass: &mut Pass<L>,
+    turns: &mut Turns,
     clock: &C,
     gate: &G,
-) -> bool
+) -> Option<u64>
     ensures { pass.new.actor ≡ pass.old.actor }
 {
+    if shared.stopping() {
+        return None;
+    }
     let moment = clock.moment();
-    make_call(rt, shared, pass, Step::Tick { moment }, gate).is_ok()
+    if let Some(milliseconds) = turns.add(moment) {
+        gate.stood_still(milliseconds);
+        return Some(CATCHING_UP_MS);
+    }
+    match make_call(rt, shared, pass, Step::Tick { moment }, gate) {
+        Ok(_) => Some(TICK_MS),
+        Err(_) => None,
+    }
 }
 
 /// Lets a second pass, or less where the server ends.

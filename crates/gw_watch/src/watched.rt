@@ -201,6 +201,12 @@ impl<'a, R: Wait, C: Clock, G: Gate> Gate for Watched<'a, R, C, G> {
         tell_of_commands(self.desk, run);
         self.gate.pumped(run);
     }
+
+    fn stood_still(&self, milliseconds: u64) {
+        self.gate.stood_still(milliseconds);
+        self.desk
+            .tell(JournalEvent::HostStoodStill { milliseconds });
+    }
 }
 
 /// Whether a request writes the time: function WRITE, and an object of group 50.
