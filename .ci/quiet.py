@@ -1,7 +1,7 @@
 """Cases of `.ci/serve`: outstations of which nothing comes for long."""
 import time
 
-from peers import ENABLE, INTEGRITY, frame, response, same, unsolicited
+from peers import ENABLE, INTEGRITY, MASTER, frame, response, same, unsolicited
 from scene import OFF, case, within
 from told import WALL
 
@@ -56,8 +56,11 @@ def foreign_status(scene):
     (outstation, link), = begun(scene, 1)
     scene.clock.be_ahead(SILENCE)
     same("the request for the status", link.frame(), (ASKED, b""))
-    link.write(frame(b"", STATUS, source=link.address + 1))
-    link.quiet(2 * LOOK)
+    other = link.address + 1
+    link.write(frame(b"", STATUS, source=other))
+    scene.told(
+        f"{outstation.name} a frame from link address {other} to {MASTER} came; from {link.address} to {MASTER} is expected")
+    link.quiet(LOOK)
     scene.clock.be_ahead(2 * SILENCE)
     same("the next request for the status", link.frame(), (ASKED, b""))
     scene.told(f"{outstation.name} doesn't answer a link status")
