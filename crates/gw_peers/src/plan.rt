@@ -10,9 +10,6 @@ use std::time::Duration;
 /// The milliseconds that connecting may take at most.
 const LONGEST_CONNECTING_MS: u64 = 5000;
 
-/// The milliseconds that an outstation is held back at most behind a fragment.
-const LONGEST_PATIENCE_MS: u64 = 250;
-
 /// The milliseconds that its reader waits at most for octets before it looks at the link.
 const LONGEST_WAIT_MS: u64 = 1000;
 
@@ -46,13 +43,11 @@ impl Plan {
             .min(Duration::from_millis(LONGEST_CONNECTING_MS))
     }
 
-    /// How long its reader waits at most for clients that don't keep up, in milliseconds: so short that an answer which
-    /// waits meanwhile still comes in time.
+    /// How long its reader waits at most before it takes a fragment, for clients that have no room for that, in
+    /// milliseconds: so short that an answer which waits meanwhile still comes in time.
     pub fn patience_ms(&self) -> u64 {
         let quarter = self.response / 4;
-        u64::try_from(quarter.as_millis())
-            .unwrap_or(LONGEST_PATIENCE_MS)
-            .min(LONGEST_PATIENCE_MS)
+        u64::try_from(quarter.as_millis()).unwrap_or(0)
     }
 
     /// How long it may be silent, or answer nothing, in milliseconds.

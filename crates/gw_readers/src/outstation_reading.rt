@@ -12,8 +12,8 @@ use dnp_link::{Frame, LinkEvent, LinkFeed};
 use dnp_receive::Receiver;
 use gw_ends::{Arrival, Front, Incoming, Line, LineCourse, Outgoing, Sending, WorkerEnd};
 use gw_threads::{
-    Bell, Calls, Clock, Course, FrameHeader, Gate, Pass, Place, Reply, Step, StepFault, Verdict,
-    lose_outstation, make_call,
+    Bell, Calls, Clock, Course, FrameHeader, Gate, Load, Pass, Place, Reply, Step, StepFault,
+    Verdict, lose_outstation, make_call,
 };
 use std::alloc::Global;
 use std::cell::Cell;
@@ -32,7 +32,7 @@ const NAP_MS: u64 = 5;
 /// How long the reader of an outstation waits at most, in milliseconds.
 #[derive(Clone, Copy)]
 pub struct Patience {
-    /// For clients that don't keep up with a fragment.
+    /// Before it takes a fragment, for clients that have no room for what that brings.
     pub for_clients: u64,
     /// For a fragment that is taken, while other octets come.
     pub for_answers: u64,
@@ -74,8 +74,9 @@ struct Reading<
 /// Makes a step of each response that comes from an outstation, and sends what is owed for it: the replies of the
 /// link, and confirmations. It ends where its octets end, reading or writing fails, memory runs out, the outstation
 /// isn't up any more, or octets came but for too long none of them was a fragment that the core took; that is told to the
-/// core. Where nothing came for a minute it asks for the status of the link (`LinkCheck`). Where a client that reads doesn't keep
-/// up with a fragment, it waits before it reads on, so that the outstation is held back; but no longer than its patience.
+/// core. Where nothing came for a minute it asks for the status of the link (`LinkCheck`). Where a client that reads has no
+/// room for what a fragment brings, it waits before it takes that, so that the outstation is held back; but no longer than its
+/// patience. A fragment without observations is taken at once.
 pub fn outstation_reader<
     'a,
     'b,
@@ -404,15 +405,15 @@ impl<
         let asks = response.control().con;
         let size = response.reports().len() as u64;
         self.gate.at(actor, Place::Decoded);
+        if size > 0 {
+            self.wait_for_clients(size);
+        }
         if asks {
             self.line.owe(self.rt);
         }
         let end = self.ask(response);
         if asks {
             self.line.settle(self.rt);
-        }
-        if end.is_none() && size > 0 {
-            self.wait_for_clients(size);
         }
         end
     }
@@ -444,19 +445,22 @@ impl<
         }
     }
 
-    /// Waits until the clients that read keep up with the last fragment, which told of so many observations.
+    /// Waits until the clients that read have room for what a fragment brings, which tells of so many observations.
     fn wait_for_clients(&self, size: u64) {
-        let Some(load) = self.shared.load(self.rt, size, self.clock.moment()) else {
-            return;
-        };
         let bell = Bell::new();
+        let began = self.clock.moment();
         for _nap in 0..self.patience.for_clients / NAP_MS {
-            bell.wait_for(self.rt, 0, Duration::from_millis(NAP_MS));
-            if self.shared.stopping()
-                || !self.shared.is_outrun(self.rt, load, self.clock.moment())
-            {
+            let moment = self.clock.moment();
+            let load = Load {
+                outstation: self.outstation,
+                size,
+                waited: moment.saturating_sub(began),
+                patience: self.patience.for_clients,
+            };
+            if self.shared.stopping() || !self.shared.is_outrun(self.rt, load, moment) {
                 return;
             }
+            bell.wait_for(self.rt, 0, Duration::from_millis(NAP_MS));
         }
     }
 

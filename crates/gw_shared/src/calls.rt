@@ -49,12 +49,15 @@ pub trait Calls<L: Course> {
     /// Whether a client is up.
     fn stands<R: Wait>(&self, rt: &R, client: u8) -> bool;
 
-    /// What a fragment with so many observations brought, which was taken last, where a client that was given something
-    /// within the last second has more than half of its queue waiting, or would have with as much again.
-    fn load<R: Wait>(&self, rt: &R, size: u64, moment: u64) -> Option<Load>;
-
-    /// Whether such a client still waits for some of it.
+    /// Whether a fragment is to wait: a client for which news wait has no room for what it brings, and was given an APDU within
+    /// the last two seconds, or acknowledged one. It isn't where it has waited for as long as it may; that is a shorter time
+    /// where its outstation has an order that waits or is under way. Room that is there is kept until the fragment is taken.
     fn is_outrun<R: Wait>(&self, rt: &R, load: Load, moment: u64) -> bool;
+
+    /// For how many milliseconds an outstation isn't to be asked, before this is to be asked again: since such a client has no
+    /// room for as much as it brought last, or since its indications have requests follow each other that bring nothing. 0
+    /// where no request is due, and where an order waits for it or is under way.
+    fn rest<R: Wait>(&self, rt: &R, outstation: u8, moment: u64) -> u64;
 
     /// What is counted.
     fn figures<R: Wait>(&self, rt: &R) -> Figures;

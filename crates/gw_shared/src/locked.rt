@@ -29,7 +29,7 @@ use std::sync::ledger::{Book, Share};
 const MOST_PUMPS: u32 = 64;
 
 /// A machine with its recorder, the count of calls, and the book of all passes' counts; what was dropped for clients,
-/// which writers are awake, how clients keep up, and what became of orders, which no contract sees.
+/// which writers are awake, how peers keep up, and what became of orders, which no contract sees.
 #[derive(Drop)]
 pub struct Core<L: Course, M: Machine> {
     machine: M,
@@ -162,17 +162,18 @@ impl<L: Course, M: Machine> Core<L, M> {
         ensures answers { Answers L.setup pass.old pass.new step result.0 }
     {
         let topic = Topic::of(&step);
-        self.foresee(topic);
+        self.foresee(topic, &step);
         let answer = self.step(pass, step);
         let roused = self.rouse(pass, topic, &answer.1);
         (answer, roused)
     }
 
-    /// What may become of orders by a step is looked at before.
-    fn foresee(&mut self, topic: Topic)
+    /// What may become of orders by a step is looked at before, and what it may tell of how peers keep up.
+    fn foresee(&mut self, topic: Topic, step: &Step)
         ensures { self.new ≡ self.old }
     {
         self.fates.foresee(topic, &self.machine);
+        self.pace.foresee(step, &self.machine);
     }
 
     /// Those of the workers whom a call serves for whom the bell has to ring. What the call did to orders is kept with
@@ -188,6 +189,7 @@ impl<L: Course, M: Machine> Core<L, M> {
     {
         let orders = &mut pass.orders;
         self.fates.note(topic, reply, &self.machine, orders);
+        self.pace.settle(reply, &self.machine);
         let ordered = orders.accepted().is_some();
         self.awake.told(topic, reply);
         self.awake
@@ -298,20 +300,19 @@ impl<L: Course, M: Machine> Core<L, M> {
         self.machine.stands(client)
     }
 
-    /// What a fragment with so many observations brought, which was taken last, where a client that reads doesn't keep
-    /// up with it.
-    pub fn load(&self, size: u64, moment: u64) -> Option<Load> {
-        let load = Load::of(size, &self.machine);
-        if self.is_outrun(load, moment) {
-            Some(load)
-        } else {
-            None
-        }
+    /// Whether a fragment is to wait, since a client that reads has no room for what it brings. Room that is there is kept until
+    /// it is taken.
+    pub fn is_outrun(&mut self, load: Load, moment: u64) -> bool
+        ensures { self.new ≡ self.old }
+    {
+        self.pace.is_outrun(load, &self.machine, moment)
     }
 
-    /// Whether a client that reads still doesn't keep up with a fragment.
-    pub fn is_outrun(&self, load: Load, moment: u64) -> bool {
-        self.pace.is_outrun(load, &self.machine, moment)
+    /// For how many milliseconds an outstation isn't to be asked, before this is to be asked again.
+    pub fn rest(&mut self, outstation: u8, moment: u64) -> u64
+        ensures { self.new ≡ self.old }
+    {
+        self.pace.rest(outstation, &self.machine, moment)
     }
 
     /// What is counted.

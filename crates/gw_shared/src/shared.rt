@@ -194,12 +194,12 @@ impl<L: Course, M: Machine> Calls<L> for Shared<L, M> {
         self.core.lock(rt).stands(client)
     }
 
-    fn load<R: Wait>(&self, rt: &R, size: u64, moment: u64) -> Option<Load> {
-        self.core.lock(rt).load(size, moment)
-    }
-
     fn is_outrun<R: Wait>(&self, rt: &R, load: Load, moment: u64) -> bool {
         self.core.lock(rt).is_outrun(load, moment)
+    }
+
+    fn rest<R: Wait>(&self, rt: &R, outstation: u8, moment: u64) -> u64 {
+        self.core.lock(rt).rest(outstation, moment)
     }
 
     fn figures<R: Wait>(&self, rt: &R) -> Figures {

@@ -12,7 +12,6 @@ mod lost;
 mod outstation_writing;
 mod source;
 mod standstill;
-mod streak;
 mod ticking;
 
 pub use call::{About, Call, Run, control_command, make_call};

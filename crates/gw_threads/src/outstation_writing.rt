@@ -7,24 +7,21 @@ ghost use Rattle.gw_threads.specs.Sends.{is_request, PollsOnce, SendsAll, SendsA
 use crate::call::make_call;
 use crate::gate::{Gate, Place};
 use crate::lost::lose_outstation;
-use crate::streak::{REST_MS, RequestStreak};
 use dnp_app::Request;
 use gw_clock::Clock;
 use gw_ends::{Front, Line, LineCourse, Outgoing, Sending, WorkerEnd};
 use gw_shared::{Calls, Course, Pass, Reply, Step, StepFault};
-use std::rt::Clock as Sleeps;
 use std::sync::Wait;
-use std::thread;
 use std::time::Duration;
 
 /// Sends an outstation the requests that the core gives, until it isn't up any more, writing fails, or the worker is
-/// asked to end. Where none is due it sleeps until a step may bring one; behind 100 requests in a row it rests for 20
-/// milliseconds.
+/// asked to end. Where none is due it sleeps until a step may bring one. It waits before it asks for the next where the
+/// outstation isn't to be asked yet, but not where an order waits.
 pub fn outstation_writer<
     L: Course,
     N: LineCourse,
     S: Calls<L>,
-    R: Wait + Sleeps,
+    R: Wait,
     W: Outgoing,
     C: Clock,
     G: Gate,
@@ -48,18 +45,9 @@ pub fn outstation_writer<
     pass.attest();
     let mut pass = pass;
     let mut mine = line.join(rt);
-    let mut streak = RequestStreak::new();
     'requests: for _ in rt.forever() {
         let next = write_next(
-            rt,
-            shared,
-            &mut pass,
-            outstation,
-            line,
-            &mut mine,
-            &mut streak,
-            clock,
-            gate,
+            rt, shared, &mut pass, outstation, line, &mut mine, clock, gate,
         );
         if let Some(end) = next {
             pass.attest();
@@ -69,24 +57,15 @@ pub fn outstation_writer<
     unreachable!()
 }
 
-/// Sends the next request, or sleeps where none is due; how the worker ends, if it does.
+/// Sends the next request where one is due, and sleeps until a further one may be; how the worker ends, if it does.
 #[tactic(auto, using(crate::proofs::Requesting::sent_none, crate::proofs::Requesting::sent_loss))]
-fn write_next<
-    L: Course,
-    N: LineCourse,
-    S: Calls<L>,
-    R: Wait + Sleeps,
-    W: Outgoing,
-    C: Clock,
-    G: Gate,
->(
+fn write_next<L: Course, N: LineCourse, S: Calls<L>, R: Wait, W: Outgoing, C: Clock, G: Gate>(
     rt: &R,
     shared: &S,
     pass: &mut Pass<L>,
     outstation: u8,
     line: &Line<W, N>,
     mine: &mut Front<Sending, N>,
-    streak: &mut RequestStreak,
     clock: &C,
     gate: &G,
 ) -> Option<WorkerEnd>
@@ -94,36 +73,26 @@ fn write_next<
     ensures sent { SentAll L.setup outstation pass.old pass.new mine.old mine.new (is_write_fault result) }
     ensures end { IfSome result MayEndWriting }
 {
+    rest::<L, S, R, C>(rt, shared, outstation, clock);
     // Read before all that a ring may tell of.
     let rung = rung::<L, S>(shared, outstation);
     if shared.stopping() {
         return Some(WorkerEnd::Stopping);
     }
-    let end = send_next(
-        rt, shared, pass, outstation, line, mine, streak, rung, clock, gate,
-    )?;
+    let end = send_next(rt, shared, pass, outstation, line, mine, rung, clock, gate)?;
     lose_outstation(rt, shared, pass, outstation, clock, gate);
     Some(end)
 }
 
-/// Sends the next request, or sleeps where none is due; why the outstation is lost, if it is.
+/// Sends the next request where one is due, and sleeps until a further one may be; why the outstation is lost, if it is.
 #[tactic(auto, using(crate::proofs::Requesting::sent_request, crate::proofs::Requesting::sent_nothing))]
-fn send_next<
-    L: Course,
-    N: LineCourse,
-    S: Calls<L>,
-    R: Wait + Sleeps,
-    W: Outgoing,
-    C: Clock,
-    G: Gate,
->(
+fn send_next<L: Course, N: LineCourse, S: Calls<L>, R: Wait, W: Outgoing, C: Clock, G: Gate>(
     rt: &R,
     shared: &S,
     pass: &mut Pass<L>,
     outstation: u8,
     line: &Line<W, N>,
     mine: &mut Front<Sending, N>,
-    streak: &mut RequestStreak,
     rung: u64,
     clock: &C,
     gate: &G,
@@ -138,7 +107,8 @@ fn send_next<
             gate.at(pass.actor(), Place::BeforeWrite);
             match line.request(rt, mine, &request) {
                 Ok(()) => {
-                    rest(rt, streak, clock.moment());
+                    // No other is due before a step that rings.
+                    wait::<L, S, R>(rt, shared, outstation, rung);
                     None
                 }
                 Err(_) => Some(WorkerEnd::WriteFault),
@@ -173,10 +143,19 @@ fn request_in(answer: &Result<Reply, StepFault>) -> Option<Request>
     }
 }
 
-/// Rests behind a request that went at a moment, where it ends a streak.
-fn rest<R: Sleeps>(rt: &R, streak: &mut RequestStreak, moment: u64) {
-    if streak.add(moment) {
-        thread::sleep(rt, Duration::from_millis(REST_MS));
+/// Waits for as long as the outstation isn't to be asked, unless an order comes for it, or the worker is to end. The bell
+/// rings for other things too.
+fn rest<L: Course, S: Calls<L>, R: Wait, C: Clock>(rt: &R, shared: &S, outstation: u8, clock: &C) {
+    let Some(bell) = shared.outstation_bell(outstation) else {
+        return;
+    };
+    for _ in rt.forever() {
+        let rung = bell.rung();
+        let rest = shared.rest(rt, outstation, clock.moment());
+        if rest == 0 || shared.stopping() {
+            return;
+        }
+        bell.wait_for(rt, rung, Duration::from_millis(rest));
     }
 }
 

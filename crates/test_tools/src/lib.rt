@@ -16,8 +16,8 @@ pub use gw_ends::open_line;
 pub use gw_hub::{Counts, Hub, Machine};
 pub use gw_readers::{
     Arrival, Batch, Calls, CloseFault, Course, Entry, Gate, Incoming, Kept, KeptStep, Line,
-    LineCourse, OpenGate, Opened, Outgoing, Pass, Place, Put, Reply, Sending, Step, StepFault,
-    Unwritten, Why, WorkerEnd, client_writer, clock, outstation_writer, put_out,
+    LineCourse, Load, OpenGate, Opened, Outgoing, Pass, Place, Put, Reply, Sending, Step,
+    StepFault, Unwritten, Why, WorkerEnd, client_writer, clock, outstation_writer, put_out,
 };
 pub use gw_steps::Verdict;
 pub use machine_source::MachineSource;

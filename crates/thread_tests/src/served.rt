@@ -6,7 +6,7 @@ use gw_map::DEFAULT_SETTINGS;
 use std::marker::Brand;
 use std::process::Abort;
 use std::sync::Wait;
-use test_tools::{Batch, Calls, Course, Opening, TestCore, Turn, step_of};
+use test_tools::{Batch, Calls, Course, Load, Opening, TestCore, Turn, step_of};
 
 /// A client has started, was told that a binary input is on, and that nothing more waits.
 const TOLD: &str = "open 0 0
@@ -86,10 +86,32 @@ const FROM_0: &str = "frag 0 0 F0 82 00 00 02 01 17 02 05 81 05 01";
 
 const FROM_1: &str = "frag 1 0 F0 82 00 00 02 01 17 02 05 81 05 01";
 
-/// Two news and as many once more fill half of the queue, which is not too much; four and two more are too much, though
-/// the queue has room for them: half of it is for what other outstations bring at the same time.
+/// Where two news wait: of an outstation how many observations it brings, at which moment, and whether that is too much.
+/// Seven are, but not behind two seconds, since the client doesn't count as one that reads then. Room is kept for those of the
+/// other outstation for which there was some.
+const BEFORE: [(u8, u64, u64, bool); 7] = [
+    (0, 7, 1000, true),
+    (0, 7, 2000, false),
+    (0, 6, 1000, false),
+    (1, 2, 1000, true),
+    (0, 4, 1000, false),
+    (1, 2, 1000, false),
+    (0, 5, 1000, true),
+];
+
+/// Where those of outstation 1 were taken.
+const BEHIND: [(u8, u64, u64, bool); 2] = [(0, 4, 1000, false), (0, 5, 1000, true)];
+
+/// Where the client was given all: the one that has waited for longer comes first.
+const AT_LAST: [(u8, u64, u64, bool); 3] = [
+    (1, 5, 1001, true),
+    (1, 3, 1001, false),
+    (0, 5, 1001, false),
+];
+
+/// What there is room for in a queue of eight.
 #[test]
-fn half_a_queue(rt: HostRuntime) {
+fn room_in_the_queue(rt: HostRuntime) {
     let opening = Opening::of(rt.alloc(), 1, SHORT_QUEUE).expect(&rt, "an opening");
     fill::<Brand, _>(&rt, opening);
 }
@@ -108,10 +130,29 @@ fn fill<L: Course, R: Wait + Abort + AllocGlobal>(rt: &R, opening: Opening)
     }
     give(rt, &mut core);
     make(rt, &mut core, FROM_0);
-    assert!(rt; core.shared.load(rt, 2, 0).is_none());
+    check_room(rt, &core, &BEFORE);
     make(rt, &mut core, FROM_1);
-    assert!(rt; core.shared.load(rt, 2, 0).is_some());
+    check_room(rt, &core, &BEHIND);
+    give(rt, &mut core);
+    check_room(rt, &core, &AT_LAST);
     core.total(rt).expect(rt, "all passes");
+}
+
+/// Asks for room for so many observations of outstations, at moments; each is answered so.
+fn check_room<L: Course, R: Wait + Abort>(
+    rt: &R,
+    core: &TestCore<L>,
+    asked: &[(u8, u64, u64, bool)],
+) {
+    for (outstation, size, moment, is_outrun) in asked {
+        let load = Load {
+            outstation: *outstation,
+            size: *size,
+            waited: 0,
+            patience: 1000,
+        };
+        same(rt, &core.shared.is_outrun(rt, load, *moment), is_outrun);
+    }
 }
 
 /// Gives client 0 what waits for it: it counts as one that reads then.
