@@ -45,18 +45,73 @@ impl Cause {
     pub(crate) fn is_own(self) -> bool {
         matches!(self, Cause::GaveWay | Cause::GatewayEnds)
     }
+
+    /// Whether the gateway closed the connection, or lost it, in a word.
+    pub(crate) fn in_a_word(self) -> &'static str {
+        match self {
+            Cause::Closed(_) | Cause::GaveWay | Cause::GatewayEnds => "closed",
+            Cause::EndOfInput
+            | Cause::Silent { .. }
+            | Cause::Unanswered
+            | Cause::LinkUnanswered
+            | Cause::Slow { .. }
+            | Cause::NotRead(_)
+            | Cause::NotWritten(_)
+            | Cause::NotApdus(_)
+            | Cause::Memory => "lost",
+        }
+    }
+
+    /// Whether another connection ended for the same reason. That the peer ended it shows, by chance, as one of several.
+    pub(crate) fn is_like(self, other: Cause) -> bool {
+        match (self, other) {
+            (Cause::Closed(one), Cause::Closed(other)) => one == other,
+            (Cause::NotApdus(one), Cause::NotApdus(other)) => one == other,
+            (Cause::Silent { .. }, Cause::Silent { .. })
+            | (Cause::Unanswered, Cause::Unanswered)
+            | (Cause::LinkUnanswered, Cause::LinkUnanswered)
+            | (Cause::Slow { .. }, Cause::Slow { .. })
+            | (Cause::Memory, Cause::Memory)
+            | (Cause::GaveWay, Cause::GaveWay)
+            | (Cause::GatewayEnds, Cause::GatewayEnds) => true,
+            _ if self.is_of_peer() => other.is_of_peer(),
+            (Cause::NotRead(one), Cause::NotRead(other))
+            | (Cause::NotWritten(one), Cause::NotWritten(other)) => one == other,
+            _ => false,
+        }
+    }
+
+    /// Whether the peer, or something between, ended the connection.
+    fn is_of_peer(self) -> bool {
+        match self {
+            Cause::EndOfInput => true,
+            Cause::NotRead(failure) | Cause::NotWritten(failure) => failure.is_of_peer(),
+            _ => false,
+        }
+    }
 }
 
 impl fmt::Display for Cause {
     fn fmt<W: fmt::Write>(&self, f: &mut fmt::Formatter<W>) -> fmt::Result {
-        let words = match *self {
+        let (ended, reason) = (self.in_a_word(), Reason(*self));
+        write!(f, "{ended}: {reason}")
+    }
+}
+
+/// Why a connection ended, in words.
+#[derive(Clone, Copy)]
+pub(crate) struct Reason(pub(crate) Cause);
+
+impl fmt::Display for Reason {
+    fn fmt<W: fmt::Write>(&self, f: &mut fmt::Formatter<W>) -> fmt::Result {
+        let words = match self.0 {
             Cause::Closed(why) => words_of(why),
-            Cause::EndOfInput => "lost: end of input",
-            Cause::Silent { seconds } => return write!(f, "lost: silent for {seconds} s"),
-            Cause::Unanswered => "lost: octets came, but no answer",
-            Cause::LinkUnanswered => "lost: no answer to a link status",
+            Cause::EndOfInput => "end of input",
+            Cause::Silent { seconds } => return write!(f, "silent for {seconds} s"),
+            Cause::Unanswered => "octets came, but no answer",
+            Cause::LinkUnanswered => "no answer to a link status",
             Cause::Slow { milliseconds } => {
-                return write!(f, "lost: a write took longer than {milliseconds} ms");
+                return write!(f, "a write took longer than {milliseconds} ms");
             }
             Cause::NotRead(failure) => {
                 return write_failure(f, "nothing could be read: ", failure);
@@ -65,9 +120,9 @@ impl fmt::Display for Cause {
                 return write_failure(f, "nothing could be written: ", failure);
             }
             Cause::NotApdus(fault) => words_of_fault(fault),
-            Cause::Memory => "lost: no memory",
-            Cause::GaveWay => "closed: gave way to a newer connection of its address",
-            Cause::GatewayEnds => "closed: the gateway ends",
+            Cause::Memory => "no memory",
+            Cause::GaveWay => "gave way to a newer connection of its address",
+            Cause::GatewayEnds => "the gateway ends",
         };
         f.write_str(words)
     }
@@ -84,25 +139,25 @@ fn write_failure<W: fmt::Write>(
     } else {
         undone
     };
-    write!(f, "lost: {before}{failure}")
+    write!(f, "{before}{failure}")
 }
 
-/// That the core closed a client's connection, and why.
+/// Why the core closed a client's connection.
 fn words_of(why: Why) -> &'static str {
     match why {
-        Why::Sequence => "closed: a wrong sequence number",
-        Why::NotStarted => "closed: an I format before STARTDT",
-        Why::Malformed => "closed: an ASDU of a wrong length or number of objects",
-        Why::Flooded => "closed: more than 32 answers would wait",
-        Why::Timer => "closed: t1 expired",
+        Why::Sequence => "a wrong sequence number",
+        Why::NotStarted => "an I format before STARTDT",
+        Why::Malformed => "an ASDU of a wrong length or number of objects",
+        Why::Flooded => "more than 32 answers would wait",
+        Why::Timer => "t1 expired",
     }
 }
 
 /// That no APDUs came, and what stands where one should begin.
 fn words_of_fault(fault: ApciFault) -> &'static str {
     match fault {
-        ApciFault::Start => "lost: no APDUs came: a start octet other than 0x68",
-        ApciFault::Length => "lost: no APDUs came: a length outside 4 to 253",
-        ApciFault::Control => "lost: no APDUs came: a control field of no format",
+        ApciFault::Start => "no APDUs came: a start octet other than 0x68",
+        ApciFault::Length => "no APDUs came: a length outside 4 to 253",
+        ApciFault::Control => "no APDUs came: a control field of no format",
     }
 }

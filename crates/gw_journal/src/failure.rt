@@ -99,6 +99,17 @@ impl Failure {
         }
     }
 
+    /// Whether the peer, or something between, ended the connection.
+    pub(crate) fn is_of_peer(self) -> bool {
+        matches!(
+            self,
+            Failure::ConnectionReset
+                | Failure::ConnectionAborted
+                | Failure::BrokenPipe
+                | Failure::NotConnected
+        )
+    }
+
     /// Whether it says of itself that a connection has ended.
     pub(crate) fn ends_connection(self) -> bool {
         match self {

@@ -5,10 +5,10 @@ use crate::control_event::{CommandEvent, OrderEvent};
 use crate::counted::{AndMore, Counted};
 use crate::doubt::Doubt;
 use crate::event::{JournalEvent, Priority, Subject};
+use crate::instant::Instant;
 use crate::unreadable::Unreadable;
 use gw_text::Plain;
 use iec_command::Command;
-use jiff::Timestamp;
 use std::fmt;
 use std::net::IpAddr;
 
@@ -30,19 +30,6 @@ pub struct NoteLine<'a> {
     pub places: &'a [String],
     /// Whether the priority stands in front, as journald reads it.
     pub with_priority: bool,
-}
-
-/// When something was, as `2023-11-14T22:13:20.000Z`; `-` past the year 9999.
-#[derive(Clone, Copy)]
-struct Instant(u64);
-
-impl fmt::Display for Instant {
-    fn fmt<W: fmt::Write>(&self, f: &mut fmt::Formatter<W>) -> fmt::Result {
-        match Timestamp::from_nanosecond(i128::from(self.0) * 1_000_000) {
-            Ok(instant) => write!(f, "{instant:.3}"),
-            Err(_) => f.write_str("-"),
-        }
-    }
 }
 
 /// Octets in hexadecimal, two digits for each.

@@ -70,8 +70,22 @@ impl Throttle {
         }
     }
 
+    /// How much was left out and isn't told yet.
+    pub(crate) fn left_out(&self) -> u64
+        ensures { result ≡ self.now }
+    {
+        self.left_out
+    }
+
+    /// How many milliseconds lie between two tellings from now on.
+    pub(crate) fn set_interval(&mut self, interval_ms: u64)
+        ensures { self.new ≡ self.old }
+    {
+        self.interval_ms = interval_ms;
+    }
+
     /// Whether the interval has passed. It has where the clock was set back.
-    fn may_tell(&self, now: u64) -> bool {
+    pub(crate) fn may_tell(&self, now: u64) -> bool {
         match self.last {
             Some(last) => match now.checked_sub(last) {
                 Some(passed) => passed >= self.interval_ms,
@@ -82,7 +96,7 @@ impl Throttle {
     }
 
     /// Takes how much was left out, to be told now.
-    fn take(&mut self, now: u64) -> u64
+    pub(crate) fn take(&mut self, now: u64) -> u64
         ensures told { result ≡ self.old }
         ensures taken { self.new ≡ 0 }
     {
