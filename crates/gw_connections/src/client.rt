@@ -129,7 +129,7 @@ pub fn serve_place<
             break;
         };
         passes = serve_visit(house, card, place, passes, visit);
-        if lobby.free(house.desk.rt, place) {
+        if lobby.free(house.desk.rt, place, house.desk.clock.wall()) {
             house.desk.tell(JournalEvent::PlaceFree);
         }
     }
@@ -166,20 +166,22 @@ fn serve_visit<
     passes
 }
 
-/// Notes that a client is up, and tells of it.
+/// Notes that a client is up, and tells of it, unless connections from its address end again and again.
 fn begin<R: Wait, C: Clock>(
     desk: &Desk<'_, R, C>,
     card: &ClientCard,
     client: u8,
     address: SocketAddr,
 ) {
-    card.figures
-        .lock(desk.rt)
-        .connected(address, desk.clock.wall());
-    desk.tell(JournalEvent::ClientConnected { client, address });
+    let wall = desk.clock.wall();
+    let is_told = desk.board.callers.lock(desk.rt).begin(wall, address);
+    card.figures.lock(desk.rt).connected(address, wall, is_told);
+    if is_told {
+        desk.tell(JournalEvent::ClientConnected { client, address });
+    }
 }
 
-/// Notes that the connection to a client has ended, and tells of it.
+/// Notes that the connection to a client has ended, and tells of it, likewise.
 fn end<R: Wait, C: Clock>(
     desk: &Desk<'_, R, C>,
     card: &ClientCard,
@@ -187,13 +189,21 @@ fn end<R: Wait, C: Clock>(
     address: SocketAddr,
     cause: Cause,
 ) {
-    card.figures.lock(desk.rt).ended(&cause);
+    let wall = desk.clock.wall();
+    let was_told = card.figures.lock(desk.rt).ended(&cause);
     card.free(desk.rt);
-    desk.tell(JournalEvent::ClientLost {
-        client,
-        address,
-        cause,
-    });
+    let told = desk
+        .board
+        .callers
+        .lock(desk.rt)
+        .end(wall, client, address, cause, was_told);
+    if let Some(loss) = told {
+        desk.tell(JournalEvent::ClientLost {
+            client,
+            address,
+            loss,
+        });
+    }
 }
 
 /// Why a connection ended, by what its workers met: where its client was made to leave, or the server is to end.

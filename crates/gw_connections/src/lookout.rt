@@ -1,7 +1,7 @@
 //! What is told once in a while.
 
 use gw_journal::{DueNotes, JournalEvent, Refused};
-use gw_peers::{ClientCard, Desk};
+use gw_peers::{CallerLoss, ClientCard, Desk};
 use gw_readers::{Calls, Clock, Course, Figures, pause};
 use std::rt::Clock as Sleeps;
 use std::sync::Wait;
@@ -21,6 +21,7 @@ pub fn look_out<L: Course, S: Calls<L>, R: Wait + Sleeps, C: Clock>(
         }
         let wall = desk.clock.wall();
         look_at_outstations(desk, wall);
+        look_at_callers(desk, wall);
         look_at_clients(desk, &shared.figures(desk.rt), wall);
     }
 }
@@ -34,6 +35,13 @@ pub fn look_at_outstations<R: Wait, C: Clock>(desk: &Desk<'_, R, C>, wall: u64) 
 
 /// Tells what is due of an outstation.
 fn tell_of_outstation<R: Wait, C: Clock>(desk: &Desk<'_, R, C>, outstation: u8, due: DueNotes) {
+    if let Some(loss) = due.lost {
+        desk.tell(JournalEvent::OutstationLost { outstation, loss });
+    }
+    if due.connected {
+        desk.tell(JournalEvent::OutstationConnected { outstation });
+    }
+    desk.tell_noticed(outstation, due.noticed);
     if let Some(count) = due.unanswered {
         desk.tell(JournalEvent::Unanswered { outstation, count });
     }
@@ -55,10 +63,56 @@ fn tell_of_outstation<R: Wait, C: Clock>(desk: &Desk<'_, R, C>, outstation: u8, 
     }
 }
 
-/// Tells how many observations were dropped for clients.
+/// Tells which connections of clients have ended, where that wasn't told and is due.
+pub fn look_at_callers<R: Wait, C: Clock>(desk: &Desk<'_, R, C>, wall: u64) {
+    let count = desk.board.callers.lock(desk.rt).len();
+    for position in 0..count {
+        let due = desk.board.callers.lock(desk.rt).due(wall, position);
+        if let Some(
+            CallerLoss {
+                client,
+                address,
+                loss,
+            },
+        ) = due
+        {
+            desk.tell(JournalEvent::ClientLost {
+                client,
+                address,
+                loss,
+            });
+        }
+    }
+}
+
+/// Tells what is due of the clients at their places: that they stand, and how many observations were dropped for them.
 fn look_at_clients<R: Wait, C: Clock>(desk: &Desk<'_, R, C>, figures: &Figures, wall: u64) {
     for (client, card) in (0u8..).zip(desk.board.clients()) {
+        tell_standing(desk, card, client, wall);
         tell_dropped(desk, card, client, figures, wall);
+    }
+}
+
+/// Tells that a client is connected, and whether it transfers data, where that wasn't told and is due.
+fn tell_standing<R: Wait, C: Clock>(
+    desk: &Desk<'_, R, C>,
+    card: &ClientCard,
+    client: u8,
+    wall: u64,
+) {
+    // Its end is told behind that, since the lock is taken for that too.
+    let mut figures = card.figures.lock(desk.rt);
+    let Some((address, since)) = figures.untold() else {
+        return;
+    };
+    let mut callers = desk.board.callers.lock(desk.rt);
+    if !callers.stands(wall, address, since) {
+        return;
+    }
+    figures.told();
+    desk.tell(JournalEvent::ClientConnected { client, address });
+    if figures.started {
+        desk.tell(JournalEvent::TransferStarted { client, address });
     }
 }
 

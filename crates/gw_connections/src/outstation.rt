@@ -21,9 +21,6 @@ use std::rt::Clock as Sleeps;
 use std::sync::Wait;
 use std::thread;
 
-/// The milliseconds behind which it is told again that no connection could be made, though for the same reason.
-const AGAIN_MS: u64 = 3_600_000;
-
 /// The passes of an outstation's workers.
 pub type OutstationPasses<L> = Passes<L, PollPass<L>>;
 
@@ -139,46 +136,34 @@ pub fn serve_outstation<
 >(house: &House<'_, S, R, C, G>, plan: &Plan, passes: OutstationPasses<L>) -> OutstationPasses<L> {
     let mut passes = passes;
     let outstation = passes.writer.outstation();
-    let mut told = None;
     for _ in house.desk.rt.forever() {
         if house.shared.stopping() {
             break;
         }
         match connect(house.desk.rt, plan) {
             Ok(stream) => {
-                told = None;
                 passes = serve_connection(house, outstation, plan, passes, &stream);
             }
-            Err(cause) => tell_unreachable(house.desk, outstation, &mut told, cause),
+            Err(cause) => tell_unreachable(house.desk, outstation, cause),
         }
         pause::<L, S, R>(house.desk.rt, house.shared);
     }
     passes
 }
 
-/// Tells that no connection could be made, unless it was told not long ago; why, and when it is told.
-fn tell_unreachable<R: Wait, C: Clock>(
-    desk: &Desk<'_, R, C>,
-    outstation: u8,
-    told: &mut Option<(Failure, u64)>,
-    cause: Failure,
-) {
+/// Tells that no connection could be made, and why, unless that was told not long ago.
+fn tell_unreachable<R: Wait, C: Clock>(desk: &Desk<'_, R, C>, outstation: u8, cause: Failure) {
+    let Some(card) = desk.board.outstation(outstation) else {
+        return;
+    };
     let wall = desk.clock.wall();
-    if is_news(*told, cause, wall) {
-        *told = Some((cause, wall));
-        desk.tell(JournalEvent::OutstationUnreachable { outstation, cause });
-    }
-}
-
-/// Whether it is to be told that no connection could be made: for another reason than it was told, or an hour later. An
-/// hour has passed where the clock was set back.
-fn is_news(told: Option<(Failure, u64)>, cause: Failure, wall: u64) -> bool {
-    match told {
-        Some((before, at)) if before == cause => match wall.checked_sub(at) {
-            Some(passed) => passed >= AGAIN_MS,
-            None => true,
-        },
-        _ => true,
+    let told = card.figures.lock(desk.rt).unreached(wall, cause);
+    if let Some(left_out) = told {
+        desk.tell(JournalEvent::OutstationUnreachable {
+            outstation,
+            cause,
+            left_out,
+        });
     }
 }
 
@@ -233,20 +218,28 @@ fn serve_connection<
     passes
 }
 
-/// Notes that a connection to an outstation stands, and tells of it.
+/// Notes that a connection to an outstation stands, and tells of it, unless such connections end again and again.
 fn begin<R: Wait, C: Clock>(desk: &Desk<'_, R, C>, outstation: u8) {
-    if let Some(card) = desk.board.outstation(outstation) {
-        card.figures.lock(desk.rt).connected(desk.clock.wall());
+    let Some(card) = desk.board.outstation(outstation) else {
+        return;
+    };
+    let wall = desk.clock.wall();
+    let is_told = card.figures.lock(desk.rt).connected(wall);
+    if is_told {
+        desk.tell(JournalEvent::OutstationConnected { outstation });
     }
-    desk.tell(JournalEvent::OutstationConnected { outstation });
 }
 
-/// Notes that the connection to an outstation has ended, and tells of it.
+/// Notes that the connection to an outstation has ended, and tells of it, likewise.
 fn end<R: Wait, C: Clock>(desk: &Desk<'_, R, C>, outstation: u8, cause: Cause) {
-    if let Some(card) = desk.board.outstation(outstation) {
-        card.figures.lock(desk.rt).lost();
+    let Some(card) = desk.board.outstation(outstation) else {
+        return;
+    };
+    let wall = desk.clock.wall();
+    let told = card.figures.lock(desk.rt).lost(wall, cause);
+    if let Some(loss) = told {
+        desk.tell(JournalEvent::OutstationLost { outstation, loss });
     }
-    desk.tell(JournalEvent::OutstationLost { outstation, cause });
 }
 
 /// Serves an outstation on its connection, until that ends; why it ended.

@@ -21,6 +21,8 @@ pub struct ClientFigures {
     pub started: bool,
     /// Why connections of this place ended.
     pub closes: Closes,
+    /// Whether the connection was told of.
+    is_told: bool,
     /// How many observations were dropped by the last look.
     dropped: u64,
     dropped_told: Throttle,
@@ -46,25 +48,53 @@ impl ClientFigures {
                 flooded: 0,
                 lost: 0,
             },
+            is_told: false,
             dropped: 0,
             dropped_told: Throttle::new(MINUTE_MS),
         }
     }
 
-    /// A client has the place since now.
-    pub fn connected(&mut self, address: SocketAddr, wall: u64) {
+    /// A client has the place since now, which is told at once or isn't.
+    pub fn connected(&mut self, address: SocketAddr, wall: u64, is_told: bool) {
         self.address = Some(address);
         self.connected_since = Some(wall);
         self.started = false;
+        self.is_told = is_told;
         self.dropped_told = Throttle::new(MINUTE_MS);
     }
 
-    /// Its connection ended.
-    pub fn ended(&mut self, cause: &Cause) {
+    /// Its connection ended; whether it was told of.
+    pub fn ended(&mut self, cause: &Cause) -> bool {
         self.address = None;
         self.connected_since = None;
         self.started = false;
         self.count(cause);
+        self.is_told
+    }
+
+    /// Where a client connects from, and since when, of whose connection it wasn't told.
+    pub fn untold(&self) -> Option<(SocketAddr, u64)> {
+        if self.is_told {
+            return None;
+        }
+        Some((self.address?, self.connected_since?))
+    }
+
+    /// The connection is told of from now on.
+    pub fn told(&mut self) {
+        self.is_told = true;
+    }
+
+    /// The client transfers data from now on, or doesn't any more. Where it connects from, if that is new, and its
+    /// connection was told of.
+    pub fn transfers(&mut self, starts: bool) -> Option<SocketAddr> {
+        let is_new = self.started != starts;
+        self.started = starts;
+        if is_new && self.is_told {
+            self.address
+        } else {
+            None
+        }
     }
 
     /// Counts why a connection ended.
@@ -96,10 +126,15 @@ impl ClientFigures {
         }
     }
 
-    /// So many observations were dropped at this place by now. Where that is to be told, how many weren't told yet.
+    /// So many observations were dropped at this place by now. Where that is to be told, how many weren't told yet. It
+    /// isn't told of a connection that wasn't.
     pub fn dropped(&mut self, wall: u64, total: u64) -> Option<u64> {
         self.dropped_told.add(total.saturating_sub(self.dropped));
         self.dropped = self.dropped.max(total);
-        self.dropped_told.pending(wall)
+        if self.is_told {
+            self.dropped_told.pending(wall)
+        } else {
+            None
+        }
     }
 }

@@ -1,9 +1,9 @@
 //! What an operator is told.
 
-use crate::cause::Cause;
 use crate::control_event::{CommandEvent, OrderEvent};
 use crate::doubt::Doubt;
 use crate::failure::Failure;
+use crate::loss::Loss;
 use crate::stray::StrayFrames;
 use crate::unreadable::Unreadable;
 use gw_text::RecordEnd;
@@ -54,13 +54,15 @@ pub enum JournalEvent {
         outstation: u8,
         /// Why.
         cause: Failure,
+        /// How many more couldn't be and weren't told.
+        left_out: u64,
     },
     /// It is lost.
     OutstationLost {
         /// The outstation.
         outstation: u8,
-        /// Why.
-        cause: Cause,
+        /// Why, and how often.
+        loss: Loss,
     },
     /// The outstation restarted: IIN1.7.
     OutstationRestarted {
@@ -155,8 +157,8 @@ pub enum JournalEvent {
         client: u8,
         /// Where it connected from.
         address: SocketAddr,
-        /// Why.
-        cause: Cause,
+        /// Why, and how often.
+        loss: Loss,
     },
     /// Observations for it were dropped, since too many waited.
     NewsDropped {
@@ -179,7 +181,10 @@ pub enum JournalEvent {
         what: CommandEvent,
     },
     /// Further control centres have to wait.
-    AllPlacesTaken,
+    AllPlacesTaken {
+        /// How many more times it was so and wasn't told.
+        left_out: u64,
+    },
     /// The next control centre is served again.
     PlaceFree,
     /// Somebody connected who isn't allowed to.
@@ -221,8 +226,9 @@ impl JournalEvent {
     /// How much it matters.
     pub fn priority(&self) -> Priority {
         match self {
-            JournalEvent::OutstationLost { cause, .. } if cause.is_own() => Priority::Information,
-            JournalEvent::ClientLost { cause, .. } if cause.is_own() => Priority::Information,
+            JournalEvent::OutstationLost { loss, .. } if loss.cause.is_own() =>
+                Priority::Information,
+            JournalEvent::ClientLost { loss, .. } if loss.cause.is_own() => Priority::Information,
             JournalEvent::OutstationLost { .. }
             | JournalEvent::OutstationUnreachable { .. }
             | JournalEvent::NotAccepted(_)
@@ -249,7 +255,7 @@ impl JournalEvent {
             | JournalEvent::ObjectsPassedOver { .. }
             | JournalEvent::ClientLost { .. }
             | JournalEvent::NewsDropped { .. }
-            | JournalEvent::AllPlacesTaken
+            | JournalEvent::AllPlacesTaken { .. }
             | JournalEvent::NotAllowed { .. }
             | JournalEvent::RecordingEnded(_)
             | JournalEvent::HostStoodStill { .. }

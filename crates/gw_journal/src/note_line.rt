@@ -5,6 +5,7 @@ use crate::control_event::{CommandEvent, OrderEvent};
 use crate::counted::{AndMore, Counted};
 use crate::doubt::Doubt;
 use crate::event::{JournalEvent, Priority, Subject};
+use crate::failure::Failure;
 use crate::instant::Instant;
 use crate::unreadable::Unreadable;
 use gw_text::Plain;
@@ -122,7 +123,7 @@ impl<'a> Happened<'a> {
             JournalEvent::Started { .. } => self.write_start(f),
             JournalEvent::Doubtful(doubt) => self.write_doubt(f, *doubt),
             JournalEvent::Listening(address) => write_said(f, "listening on", address),
-            JournalEvent::AllPlacesTaken => f.write_str("all eight places are taken"),
+            JournalEvent::AllPlacesTaken { left_out } => write_all_taken(f, *left_out),
             JournalEvent::PlaceFree => f.write_str("a place is free"),
             JournalEvent::NotAllowed { address, left_out } => {
                 write_not_allowed(f, address, *left_out)
@@ -184,10 +185,14 @@ impl<'a> fmt::Display for OutstationWords<'a> {
     fn fmt<W: fmt::Write>(&self, f: &mut fmt::Formatter<W>) -> fmt::Result {
         let words = match self.0 {
             JournalEvent::OutstationConnected { .. } => "connected",
-            JournalEvent::OutstationUnreachable { cause, .. } => {
-                return write_said(f, "not connected:", cause);
+            JournalEvent::OutstationUnreachable {
+                cause,
+                left_out,
+                ..
+            } => {
+                return write_unreached(f, *cause, *left_out);
             }
-            JournalEvent::OutstationLost { cause, .. } => return fmt::Display::fmt(cause, f),
+            JournalEvent::OutstationLost { loss, .. } => return fmt::Display::fmt(loss, f),
             JournalEvent::OutstationRestarted { .. } => "restarted (IIN1.7)",
             JournalEvent::EventsOverflowed { .. } => "its event buffer overflowed (IIN2.3)",
             JournalEvent::ClockNotSet { .. } => "its clock can't be set (IIN1.4 stays)",
@@ -229,7 +234,7 @@ impl<'a> fmt::Display for ClientWords<'a> {
             JournalEvent::ClientConnected { .. } => f.write_str("connected"),
             JournalEvent::TransferStarted { .. } => f.write_str("data transfer started"),
             JournalEvent::TransferStopped { .. } => f.write_str("data transfer stopped"),
-            JournalEvent::ClientLost { cause, .. } => fmt::Display::fmt(cause, f),
+            JournalEvent::ClientLost { loss, .. } => fmt::Display::fmt(loss, f),
             JournalEvent::NewsDropped { count, .. } => {
                 write_counted(f, *count, "observation", "dropped, since too many waited")
             }
@@ -257,6 +262,22 @@ fn write_of_peer<W: fmt::Write, P: fmt::Display, D: fmt::Display>(
     what: &D,
 ) -> fmt::Result {
     write!(f, "{kind} {number} {place} {what}")
+}
+
+/// Writes why an outstation couldn't be connected, and how many more times it couldn't be.
+fn write_unreached<W: fmt::Write>(
+    f: &mut fmt::Formatter<W>,
+    cause: Failure,
+    left_out: u64,
+) -> fmt::Result {
+    let more = AndMore(left_out);
+    write!(f, "not connected: {cause}{more}")
+}
+
+/// Writes that all places are taken, and how many more times they were.
+fn write_all_taken<W: fmt::Write>(f: &mut fmt::Formatter<W>, left_out: u64) -> fmt::Result {
+    let more = AndMore(left_out);
+    write!(f, "all eight places are taken{more}")
 }
 
 /// Writes who isn't allowed to connect.

@@ -1,5 +1,9 @@
 //! The figures of an outstation.
 
+use crate::cause::Cause;
+use crate::failure::Failure;
+use crate::loss::Loss;
+use crate::reconnects::Reconnects;
 use crate::stray::{StrayFrame, StrayFrames};
 use crate::throttle::Throttle;
 use crate::unreadable::Unreadable;
@@ -64,6 +68,12 @@ pub struct OutstationFigures {
     refused_told: Throttle,
     /// Why the last fragment was refused that wasn't told.
     last_refused: Option<Unreadable>,
+    /// What is told of its connections.
+    reconnects: Reconnects,
+    /// Whether the connection that stands was told of.
+    is_told: bool,
+    /// What was noticed on connections that weren't told of.
+    noticed: Noticed,
 }
 
 /// Whether the request before the last one is unanswered. A fragment is told behind the core's lock, so the end of an
@@ -100,6 +110,24 @@ pub struct Noticed {
     pub clock_not_set: bool,
 }
 
+impl Noticed {
+    /// Nothing.
+    const NOTHING: Noticed = Noticed {
+        restarted: false,
+        overflowed: false,
+        clock_not_set: false,
+    };
+
+    /// What is noticed here or there.
+    fn and(self, other: Noticed) -> Noticed {
+        Noticed {
+            restarted: self.restarted || other.restarted,
+            overflowed: self.overflowed || other.overflowed,
+            clock_not_set: self.clock_not_set || other.clock_not_set,
+        }
+    }
+}
+
 /// What is due to be told of an outstation.
 #[derive(Clone, Copy)]
 pub struct DueNotes {
@@ -113,6 +141,12 @@ pub struct DueNotes {
     pub strayed: Option<StrayFrames>,
     /// Fragments were refused and not told.
     pub refused: Option<Refused>,
+    /// Connections ended and weren't told.
+    pub lost: Option<Loss>,
+    /// A connection stands that wasn't told of.
+    pub connected: bool,
+    /// What was noticed on connections that weren't told of.
+    pub noticed: Noticed,
 }
 
 /// Fragments that were refused.
@@ -130,8 +164,9 @@ fn rises(indication: u16, before: u16, now: u16) -> bool {
 }
 
 impl OutstationFigures {
-    /// Of an outstation that was never connected.
-    pub fn new() -> OutstationFigures {
+    /// Of an outstation that was never connected; it is calm where no connection to it has ended for so many
+    /// milliseconds (`Reconnects`).
+    pub fn new(calm_ms: u64) -> OutstationFigures {
         OutstationFigures {
             connected_since: None,
             last_answer: None,
@@ -155,17 +190,34 @@ impl OutstationFigures {
             last_stray: None,
             refused_told: Throttle::new(SECOND_MS),
             last_refused: None,
+            reconnects: Reconnects::new(calm_ms),
+            is_told: false,
+            noticed: Noticed::NOTHING,
         }
     }
 
-    /// A connection stands since now. What the outstation indicated on an earlier one counts as new again.
-    pub fn connected(&mut self, wall: u64) {
-        self.lost();
+    /// A connection stands since now; whether that is told at once. What the outstation indicated on an earlier one
+    /// counts as new again.
+    pub fn connected(&mut self, wall: u64) -> bool {
+        self.end();
         self.connected_since = Some(wall);
+        self.is_told = self.reconnects.begin(wall);
+        self.is_told
     }
 
-    /// The connection is lost. A request that awaited its answer counts as none that wasn't answered in time.
-    pub fn lost(&mut self) {
+    /// The connection is lost, and why; what is told of that at once, if something is.
+    pub fn lost(&mut self, wall: u64, cause: Cause) -> Option<Loss> {
+        self.end();
+        self.reconnects.end(wall, cause, self.is_told)
+    }
+
+    /// No connection could be made. Where that is told, how many more weren't told before.
+    pub fn unreached(&mut self, wall: u64, cause: Failure) -> Option<u64> {
+        self.reconnects.unreached(wall, cause)
+    }
+
+    /// No connection stands. A request that awaited its answer counts as none that wasn't answered in time.
+    fn end(&mut self) {
         self.settle();
         self.connected_since = None;
         self.before = 0;
@@ -205,11 +257,20 @@ impl OutstationFigures {
         self.indications = now;
         self.events = self.events.saturating_add(events);
         self.before = now;
-        Noticed {
+        self.once_told(Noticed {
             restarted: rises(RESTART, before, now),
             overflowed: rises(OVERFLOW, before, now),
             clock_not_set,
+        })
+    }
+
+    /// What is told at once of what was noticed; it waits where the connection wasn't told of.
+    fn once_told(&mut self, noticed: Noticed) -> Noticed {
+        if self.is_told {
+            return noticed;
         }
+        self.noticed = self.noticed.and(noticed);
+        Noticed::NOTHING
     }
 
     /// The request before the last one counts as unanswered, where that was in doubt.
@@ -283,12 +344,37 @@ impl OutstationFigures {
             Doubt::New => self.doubt = Doubt::Looked,
             Doubt::Looked => self.settle(),
         }
+        let lost = self.reconnects.due(wall);
+        let connected = self.stands(wall);
         DueNotes {
             unanswered: self.unanswered_told.pending(wall),
             skipped: self.skipped_told.pending(wall),
             passed_over: self.passed_over_told.pending(wall),
             strayed: self.stray_due(wall),
             refused: self.refused_due(wall),
+            lost,
+            connected,
+            noticed: self.noticed_due(lost.is_some() || connected),
+        }
+    }
+
+    /// Whether it is due to be told that a connection stands.
+    fn stands(&mut self, wall: u64) -> bool {
+        match self.connected_since {
+            Some(since) if !self.is_told => {
+                self.is_told = self.reconnects.stands(wall, since);
+                self.is_told
+            }
+            _ => false,
+        }
+    }
+
+    /// What was noticed on connections that weren't told of, where something else is told of them.
+    fn noticed_due(&mut self, is_told: bool) -> Noticed {
+        if is_told {
+            std::mem::replace(&mut self.noticed, Noticed::NOTHING)
+        } else {
+            Noticed::NOTHING
         }
     }
 

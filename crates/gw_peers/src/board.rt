@@ -1,12 +1,17 @@
 //! What is known of each peer, outside the core's lock.
 
+use crate::callers::Callers;
 use crate::hold::Hold;
 use crate::plan::Plan;
 use gw_journal::{ClientFigures, DueNotes, OutstationFigures, StrayFrame, Way};
+use gw_map::Settings;
 use gw_model::Memory;
 use std::alloc::Global;
 use std::net::{IpAddr, SocketAddr};
 use std::sync::{Mutex, Wait};
+
+/// The milliseconds of a minute.
+const MINUTE_MS: u64 = 60_000;
 
 /// What is known of an outstation.
 #[derive(Drop)]
@@ -17,11 +22,11 @@ pub struct OutstationCard {
 }
 
 impl OutstationCard {
-    /// Nothing is known of an outstation whose frames go this way.
-    fn new(way: Way) -> OutstationCard {
+    /// Nothing is known of an outstation that is reached this way.
+    fn new(plan: &Plan) -> OutstationCard {
         OutstationCard {
-            figures: Mutex::new(OutstationFigures::new()),
-            way,
+            figures: Mutex::new(OutstationFigures::new(calm_ms(plan.silence_ms()))),
+            way: plan.way(),
         }
     }
 
@@ -67,10 +72,26 @@ impl ClientCard {
         self.hold.lock(rt).leaves()
     }
 
+    /// An APDU of the client was taken at a moment, which confirms a test or doesn't.
+    pub fn hears<R: Wait>(&self, rt: &R, moment: u64, confirms_test: bool) {
+        self.hold.lock(rt).hear(moment, confirms_test);
+    }
+
+    /// The client was sent a TESTFR act at a moment.
+    pub fn tests<R: Wait>(&self, rt: &R, moment: u64) {
+        self.hold.lock(rt).test(moment);
+    }
+
     /// How many had connected before the client, where it may have to give way to one from this address
-    /// (`Hold::idle_since`).
-    fn idle_since<R: Wait>(&self, rt: &R, address: IpAddr, moment: u64) -> Option<u64> {
-        self.hold.lock(rt).idle_since(address, moment)
+    /// (`Hold::gives_way`).
+    fn gives_way<R: Wait>(
+        &self,
+        rt: &R,
+        address: IpAddr,
+        moment: u64,
+        silence_ms: u64,
+    ) -> Option<u64> {
+        self.hold.lock(rt).gives_way(address, moment, silence_ms)
     }
 
     /// The client is made to leave.
@@ -78,12 +99,14 @@ impl ClientCard {
         self.hold.lock(rt).leave();
     }
 
-    /// The client is made to leave, if it still may have to give way.
-    fn make_room<R: Wait>(&self, rt: &R, address: IpAddr, moment: u64) {
+    /// The client is made to leave, if it still may have to give way; whether it is.
+    fn make_room<R: Wait>(&self, rt: &R, address: IpAddr, moment: u64, silence_ms: u64) -> bool {
         let mut hold = self.hold.lock(rt);
-        if hold.idle_since(address, moment).is_some() {
+        let gives_way = hold.gives_way(address, moment, silence_ms).is_some();
+        if gives_way {
             hold.leave();
         }
+        gives_way
     }
 
     /// So many observations were dropped at this place by now. Where that is to be told, where its client connects
@@ -95,26 +118,21 @@ impl ClientCard {
         Some((address, count))
     }
 
-    /// The client has started data transfer; where it connects from, if it hadn't before.
+    /// The client has started data transfer; where it connects from, if that is to be told.
     pub fn starts<R: Wait>(&self, rt: &R) -> Option<SocketAddr> {
         self.hold.lock(rt).start();
         self.transfers(rt, true)
     }
 
-    /// The client has stopped data transfer at a moment; where it connects from, if it hadn't before.
+    /// The client has stopped data transfer at a moment; where it connects from, if that is to be told.
     pub fn stops<R: Wait>(&self, rt: &R, moment: u64) -> Option<SocketAddr> {
         self.hold.lock(rt).stop(moment);
         self.transfers(rt, false)
     }
 
-    /// The client transfers data from now on, or doesn't any more; where it connects from, if that is new.
+    /// The client transfers data from now on, or doesn't any more; where it connects from, if that is to be told.
     fn transfers<R: Wait>(&self, rt: &R, starts: bool) -> Option<SocketAddr> {
-        let mut figures = self.figures.lock(rt);
-        if figures.started == starts {
-            return None;
-        }
-        figures.started = starts;
-        figures.address
+        self.figures.lock(rt).transfers(starts)
     }
 }
 
@@ -123,18 +141,31 @@ impl ClientCard {
 pub struct Board {
     outstations: Vec<OutstationCard>,
     clients: Vec<ClientCard>,
+    /// What is told of the clients of each address.
+    pub callers: Mutex<Callers>,
+    /// For how many milliseconds nothing comes from a client before it is tested (t3).
+    silence_ms: u64,
 }
 
 impl Board {
-    /// Nothing is known of the outstations that these are the ways to, and of so many clients.
-    pub fn new(alloc: Global, plans: &[Plan], clients: u8) -> Result<Board, Memory> {
+    /// Nothing is known of the outstations that are reached on these ways, and of so many clients.
+    pub fn new(
+        alloc: Global,
+        settings: &Settings,
+        plans: &[Plan],
+        clients: u8,
+    ) -> Result<Board, Memory> {
         let mut cards = Vec::with_capacity(alloc, plans.len())?;
         for plan in plans {
-            cards.push(OutstationCard::new(plan.way()))?;
+            cards.push(OutstationCard::new(plan))?;
         }
+        let (t1_ms, t3_ms) = client_times(settings);
+        let callers = Callers::new(alloc, calm_ms(t3_ms.saturating_add(t1_ms)));
         Ok(Board {
             outstations: cards,
             clients: client_cards(alloc, clients)?,
+            callers: Mutex::new(callers),
+            silence_ms: t3_ms,
         })
     }
 
@@ -165,25 +196,36 @@ impl Board {
         }
     }
 
-    /// Of the clients from an address that don't transfer data, and connected or stopped it a second before a moment or
-    /// earlier, but for the newcomer, the one that connected first is made to leave its place.
-    pub fn make_room<R: Wait>(&self, rt: &R, address: IpAddr, newcomer: u8, moment: u64) {
+    /// Of the clients from an address that may have to give way at a moment, the one that connected first is made to
+    /// leave its place; whether one is.
+    pub fn make_room<R: Wait>(&self, rt: &R, address: IpAddr, moment: u64) -> bool {
         let mut oldest: Option<(u64, &ClientCard)> = None;
-        for (client, card) in (0u8..).zip(&self.clients) {
-            if client == newcomer {
-                continue;
-            }
-            if let Some(order) = card.idle_since(rt, address, moment) {
+        for card in &self.clients {
+            if let Some(order) = card.gives_way(rt, address, moment, self.silence_ms) {
                 match oldest {
                     Some((before, _)) if before < order => {}
                     _ => oldest = Some((order, card)),
                 }
             }
         }
-        if let Some((_, card)) = oldest {
-            card.make_room(rt, address, moment);
+        match oldest {
+            Some((_, card)) => card.make_room(rt, address, moment, self.silence_ms),
+            None => false,
         }
     }
+}
+
+/// For how many milliseconds no connection to a peer may have ended where it is calm: a minute, or twice the time in which
+/// one that says nothing is found to be dead, where that is longer. So no connection stands for so long to a peer that
+/// takes connections and then says nothing.
+fn calm_ms(silence_ms: u64) -> u64 {
+    MINUTE_MS.max(silence_ms.saturating_mul(2))
+}
+
+/// t1 and t3, in milliseconds.
+fn client_times(settings: &Settings) -> (u64, u64) {
+    let station = settings.station();
+    (u64::from(station.t1_ms), u64::from(station.t3_ms))
 }
 
 /// So many places of which nothing is known.

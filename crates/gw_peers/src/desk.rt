@@ -2,7 +2,7 @@
 
 use crate::board::Board;
 use gw_clock::Clock;
-use gw_journal::{Journal, JournalEvent};
+use gw_journal::{Journal, JournalEvent, Noticed};
 use std::alloc::Global;
 use std::sync::Wait;
 
@@ -20,5 +20,18 @@ impl<'a, R: Wait, C: Clock> Desk<'a, R, C> {
     /// Tells an operator what happened just now.
     pub fn tell(&self, event: JournalEvent) {
         self.journal.tell(self.rt, self.clock.wall(), event);
+    }
+
+    /// Tells an operator what was noticed of an outstation.
+    pub fn tell_noticed(&self, outstation: u8, noticed: Noticed) {
+        if noticed.restarted {
+            self.tell(JournalEvent::OutstationRestarted { outstation });
+        }
+        if noticed.overflowed {
+            self.tell(JournalEvent::EventsOverflowed { outstation });
+        }
+        if noticed.clock_not_set {
+            self.tell(JournalEvent::ClockNotSet { outstation });
+        }
     }
 }

@@ -3,7 +3,8 @@
 use crate::tcp::shut;
 use std::net::{IpAddr, SocketAddr, TcpStream};
 
-/// The milliseconds in which a client that has connected, or has stopped data transfer, may be about to start it.
+/// The milliseconds in which a client that has connected, or has stopped data transfer, may be about to start it, and
+/// one that is tested may be about to answer.
 const GRACE_MS: u64 = 1000;
 
 /// How a client holds its place.
@@ -15,6 +16,10 @@ pub struct Hold {
     order: u64,
     /// The moment at which it connected, or last stopped data transfer.
     since: u64,
+    /// The moment of its last APDU, or at which it connected.
+    heard: u64,
+    /// The moment at which it was sent a TESTFR act that it hasn't confirmed, if it was.
+    tested: Option<u64>,
     /// A second handle of its connection.
     stream: Option<TcpStream>,
     /// It asked for data transfer.
@@ -30,6 +35,8 @@ impl Hold {
             address: None,
             order: 0,
             since: 0,
+            heard: 0,
+            tested: None,
             stream: None,
             has_started: false,
             leaves: false,
@@ -42,6 +49,8 @@ impl Hold {
             address: Some(address),
             order,
             since,
+            heard: since,
+            tested: None,
             stream: stream.try_clone().ok(),
             has_started: false,
             leaves: false,
@@ -61,19 +70,40 @@ impl Hold {
         }
     }
 
-    /// How many had connected before a client from this address that doesn't transfer data, and connected or stopped a
-    /// second before this moment or earlier.
-    pub fn idle_since(&self, address: IpAddr, moment: u64) -> Option<u64> {
-        if self.is_from(address) && !self.has_started && self.is_old(moment) {
+    /// An APDU of the client was taken at a moment, which confirms a test or doesn't.
+    pub fn hear(&mut self, moment: u64, confirms_test: bool) {
+        self.heard = moment;
+        if confirms_test {
+            self.tested = None;
+        }
+    }
+
+    /// The client was sent a TESTFR act at a moment.
+    pub fn test(&mut self, moment: u64) {
+        self.tested = Some(self.tested.unwrap_or(moment));
+    }
+
+    /// How many had connected before a client from this address that may have to give way at a moment: it doesn't
+    /// transfer data, connected or stopped a second before or earlier, and seems to be dead, where one counts as dead of
+    /// which nothing came for so many milliseconds.
+    pub fn gives_way(&self, address: IpAddr, moment: u64, silence_ms: u64) -> Option<u64> {
+        let may_go = self.is_from(address) && !self.has_started && !self.leaves;
+        if may_go && has_passed(GRACE_MS, self.since, moment) && self.is_dead(moment, silence_ms) {
             Some(self.order)
         } else {
             None
         }
     }
 
-    /// Whether the client connected a second before this moment or earlier, and hasn't stopped data transfer since then.
-    fn is_old(&self, moment: u64) -> bool {
-        moment.saturating_sub(self.since) >= GRACE_MS
+    /// Whether a second before a moment or earlier the client had been silent for so many milliseconds, or had been sent a
+    /// TESTFR act that it hasn't confirmed since: one that lives is tested each time that it was silent for so long, and
+    /// its answer is on the way for a while.
+    fn is_dead(&self, moment: u64, silence_ms: u64) -> bool {
+        let owes_answer = match self.tested {
+            Some(tested) => has_passed(GRACE_MS, tested, moment),
+            None => false,
+        };
+        owes_answer || has_passed(silence_ms.saturating_add(GRACE_MS), self.heard, moment)
     }
 
     /// Whether the client connects from this address.
@@ -96,4 +126,9 @@ impl Hold {
     pub fn leaves(&self) -> bool {
         self.leaves
     }
+}
+
+/// Whether so many milliseconds have passed from one moment to another.
+fn has_passed(milliseconds: u64, before: u64, now: u64) -> bool {
+    now.saturating_sub(before) >= milliseconds
 }

@@ -3,7 +3,9 @@
 #![tactic(auto)]
 
 mod accepting;
+mod address_rows;
 mod board;
+mod callers;
 mod desk;
 mod door;
 mod hold;
@@ -13,9 +15,11 @@ mod network;
 mod plan;
 mod refusals;
 mod tcp;
+mod waiting_visits;
 
 pub use accepting::accept;
 pub use board::{Board, ClientCard, OutstationCard};
+pub use callers::{CallerLoss, Callers};
 pub use desk::Desk;
 pub use door::Door;
 pub use input::await_end;

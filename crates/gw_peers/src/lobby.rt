@@ -1,5 +1,6 @@
 //! The places of clients.
 
+use gw_journal::LineBudget;
 use gw_model::Memory;
 use std::alloc::Global;
 use std::net::{SocketAddr, TcpStream};
@@ -31,10 +32,14 @@ struct Seats {
     ended: bool,
     /// No further client comes.
     closed: bool,
+    /// It was told that all are taken, and not that one is free since.
+    is_told: bool,
+    /// How often all were taken until one was free, and it wasn't told.
+    left_out: u64,
+    lines: LineBudget,
 }
 
-/// Where clients that were accepted wait for a place's workers: each gets the lowest that is free. Clients are accepted
-/// only while one is.
+/// Where clients wait for the workers of the place that they were given, which is the lowest that is free.
 #[derive(Drop)]
 pub struct Lobby {
     seats: Mutex<Seats>,
@@ -53,17 +58,12 @@ impl Lobby {
                 seats,
                 ended: false,
                 closed: false,
+                is_told: false,
+                left_out: 0,
+                lines: LineBudget::new(),
             }),
             changed: Condvar::new(),
         })
-    }
-
-    /// Waits until a place is free; whether a client is to be accepted for it.
-    pub fn wait_for_seat<R: Wait>(&self, rt: &R) -> bool {
-        let seats = self
-            .changed
-            .wait_while(rt, self.seats.lock(rt), |seats| seats.is_full());
-        !seats.ended
     }
 
     /// The lowest place that is free. It stays so until it is given.
@@ -71,11 +71,17 @@ impl Lobby {
         self.seats.lock(rt).free_place()
     }
 
-    /// Gives a client a place that is free; whether none is then.
-    pub fn seat<R: Wait>(&self, rt: &R, place: u8, visit: Visit) -> bool {
-        let was_last = self.seats.lock(rt).give(place, visit);
+    /// Gives a client a place that is free. Where it is to be told that none is then, at a time, how often that wasn't
+    /// told before.
+    pub fn seat<R: Wait>(&self, rt: &R, place: u8, visit: Visit, wall: u64) -> Option<u64> {
+        let told = self.seats.lock(rt).give(place, visit, wall);
         self.changed.notify_all();
-        was_last
+        told
+    }
+
+    /// Where it is to be told that no place is free, at a time, how often that wasn't told before.
+    pub fn taken<R: Wait>(&self, rt: &R, wall: u64) -> Option<u64> {
+        self.seats.lock(rt).taken(wall)
     }
 
     /// No further client is accepted.
@@ -95,11 +101,11 @@ impl Lobby {
         self.changed.notify_all();
     }
 
-    /// The workers of a place are there again; whether no place was free before.
-    pub fn free<R: Wait>(&self, rt: &R, place: u8) -> bool {
-        let was_full = self.seats.lock(rt).free(place);
+    /// The workers of a place are there again; whether it is to be told, at a time, that a place is free.
+    pub fn free<R: Wait>(&self, rt: &R, place: u8, wall: u64) -> bool {
+        let is_told = self.seats.lock(rt).free(place, wall);
         self.changed.notify_all();
-        was_full
+        is_told
     }
 
     /// The workers of a place wait for their next client; none where no further one comes.
@@ -116,21 +122,38 @@ impl Seats {
         self.seats.iter().any(|seat| matches!(seat, Seat::Free))
     }
 
-    /// Whether it makes no sense to go on: no place is free, and clients may still be accepted.
-    fn is_full(&self) -> bool {
-        !self.ended && !self.has_free()
-    }
-
-    /// The workers of a place are there; a client that it was given already stays. Whether no place was free before.
-    fn free(&mut self, place: u8) -> bool {
+    /// The workers of a place are there; a client that it was given already stays. Whether it is to be told that a place
+    /// is free: where it was told that none was.
+    fn free(&mut self, place: u8, wall: u64) -> bool {
         let was_full = !self.closed && !self.has_free();
         match self.seats.get_mut(usize::from(place)) {
             Some(seat) if matches!(seat, Seat::Taken) => {
                 *seat = Seat::Free;
-                was_full
+                was_full && self.untake(wall)
             }
             _ => false,
         }
+    }
+
+    /// A place is free, and none was. Whether that is to be told.
+    fn untake(&mut self, wall: u64) -> bool {
+        let was_told = self.is_told;
+        self.is_told = false;
+        if was_told {
+            self.lines.spend(wall);
+        } else {
+            self.left_out = self.left_out.saturating_add(1);
+        }
+        was_told
+    }
+
+    /// Where it is to be told that no place is free, how often that wasn't told before.
+    fn taken(&mut self, wall: u64) -> Option<u64> {
+        if self.has_free() || self.is_told || !self.lines.take(wall) {
+            return None;
+        }
+        self.is_told = true;
+        Some(std::mem::replace(&mut self.left_out, 0))
     }
 
     /// The lowest place that is free.
@@ -142,12 +165,12 @@ impl Seats {
         u8::try_from(place).ok()
     }
 
-    /// Gives a client a place; whether none is free then.
-    fn give(&mut self, place: u8, visit: Visit) -> bool {
+    /// Gives a client a place. Where it is to be told that none is free then, how often that wasn't told before.
+    fn give(&mut self, place: u8, visit: Visit, wall: u64) -> Option<u64> {
         if let Some(seat) = self.seats.get_mut(usize::from(place)) {
             *seat = Seat::Given(visit);
         }
-        !self.has_free()
+        self.taken(wall)
     }
 
     /// Whether the workers of a place have nothing to do yet.

@@ -9,7 +9,8 @@ use crate::duty::{Duty, Returned, add_duties};
 use crate::options::Options;
 use gw_clock::Clock;
 use gw_connections::{
-    ANY_TIME, Calls, Closed, Course, Gate, Host, House, Pass, Shared, look_at_outstations,
+    ANY_TIME, Calls, Closed, Course, Gate, Host, House, Pass, Shared, look_at_callers,
+    look_at_outstations,
 };
 use gw_hub::Hub;
 use gw_journal::{Journal, JournalEvent};
@@ -118,7 +119,7 @@ pub fn serve_as<R: Host, C: Clock + Sync, G: Gate + Sync>(
 /// The ways to the outstations, and a board with a card for each of them and for each client.
 fn plans_and_board(alloc: Global, settings: &Settings) -> Result<(Vec<Plan>, Board), Memory> {
     let plans = plans_of(alloc, settings)?;
-    let board = Board::new(alloc, &plans, CLIENTS)?;
+    let board = Board::new(alloc, settings, &plans, CLIENTS)?;
     Ok((plans, board))
 }
 
@@ -295,6 +296,7 @@ fn end_all<L: Course, S: Calls<L>, R: Host, C: Clock, G>(
     let others = threads.len().saturating_sub(1);
     join_last(desk.rt, threads, others, passes);
     look_at_outstations(desk, ANY_TIME);
+    look_at_callers(desk, ANY_TIME);
     desk.tell(JournalEvent::Stopped);
     desk.journal.close(desk.rt);
     join_last(desk.rt, threads, 1, passes);

@@ -3,10 +3,10 @@
 
 use crate::controls::{tell_of_commands, tell_of_controls};
 use dnp_app::AppFault;
-use gw_journal::{JournalEvent, Noticed, Unreadable, Way};
+use gw_journal::{JournalEvent, Unreadable, Way};
 use gw_peers::Desk;
 use gw_threads::{About, Call, Clock, FrameHeader, Gate, Place, Reply, Run, Step, Verdict};
-use iec_apci::{Apdu, Signal};
+use iec_apci::{Apdu, Apdus, Signal};
 use std::sync::Wait;
 
 /// WRITE (IEEE Std 1815, 4.4.3).
@@ -14,6 +14,11 @@ const WRITE: u8 = 2;
 
 /// The group of times.
 const TIMES: u8 = 50;
+
+/// Where the control field of an APDU begins, and with which octet that of a TESTFR act does (IEC 60870-5-104, 5.1).
+const CONTROL: usize = 2;
+
+const TEST_ACT: u8 = 0x43;
 
 /// A gate with the desk beside it.
 #[derive(Drop)]
@@ -39,20 +44,7 @@ fn answered<R: Wait, C: Clock>(
         .figures
         .lock(desk.rt)
         .answered(step, wall, indications, ended, u64::from(events));
-    tell_noticed(desk, outstation, noticed);
-}
-
-/// Tells what was noticed of an outstation.
-fn tell_noticed<R: Wait, C: Clock>(desk: &Desk<'_, R, C>, outstation: u8, noticed: Noticed) {
-    if noticed.restarted {
-        desk.tell(JournalEvent::OutstationRestarted { outstation });
-    }
-    if noticed.overflowed {
-        desk.tell(JournalEvent::EventsOverflowed { outstation });
-    }
-    if noticed.clock_not_set {
-        desk.tell(JournalEvent::ClockNotSet { outstation });
-    }
+    desk.tell_noticed(outstation, noticed);
 }
 
 /// A request goes to an outstation, which the step of this number gave.
@@ -81,6 +73,26 @@ fn refused<R: Wait, C: Clock>(
             fault,
             left_out,
         });
+    }
+}
+
+/// An APDU of a client was taken, with the function of its U format if it is one.
+fn heard<R: Wait, C: Clock>(desk: &Desk<'_, R, C>, client: u8, signal: Option<Signal>) {
+    if let Some(card) = desk.board.client(client) {
+        let confirms_test = matches!(signal, Some(Signal::TestCon));
+        card.hears(desk.rt, desk.clock.moment(), confirms_test);
+    }
+    if let Some(signal) = signal {
+        signalled(desk, client, signal);
+    }
+}
+
+/// A client is tested, where the APDUs that it is given by a run of pumps have a TESTFR act.
+fn tested<R: Wait, C: Clock>(desk: &Desk<'_, R, C>, run: &Run<'_>) {
+    if Apdus(run.octets).any(|apdu| apdu.get(CONTROL) == Some(&TEST_ACT)) {
+        if let Some(card) = desk.board.client(run.client) {
+            card.tests(desk.rt, run.moment);
+        }
     }
 }
 
@@ -119,14 +131,7 @@ fn made<R: Wait, C: Clock>(desk: &Desk<'_, R, C>, call: &Call<'_>) {
         (About::Poll(outstation), Ok(Reply::Request(request))) => {
             asked(desk, call.number, outstation, request.as_slice());
         }
-        (
-            About::Frame {
-                client,
-                signal: Some(signal),
-                ..
-            },
-            Ok(Reply::Taken),
-        ) => signalled(desk, client, signal),
+        (About::Frame { client, signal, .. }, Ok(Reply::Taken)) => heard(desk, client, signal),
         _ => {}
     }
     tell_of_controls(desk, call);
@@ -198,6 +203,7 @@ impl<'a, R: Wait, C: Clock, G: Gate> Gate for Watched<'a, R, C, G> {
     }
 
     fn pumped(&self, run: &Run<'_>) {
+        tested(self.desk, run);
         tell_of_commands(self.desk, run);
         self.gate.pumped(run);
     }
