@@ -1,6 +1,7 @@
 """A gateway that runs between peers over the loopback: how it is started, what it tells on standard error, and what its
 status shows. `.ci/serve` plays cases on it."""
 import hashlib
+import itertools
 import json
 import os
 import re
@@ -24,6 +25,8 @@ from peers import (
 SLACK, EARLY = 1.0, 0.01
 # How many seconds the gateway may take to end, and an event to get through it.
 END_LIMIT, EVENT_LIMIT = 1.5, 2.0
+# How many lines a peer whose connections end again and again has within a minute at most.
+LINES = 6
 # The clock's ticks, the pause before an outstation is connected again, and how often a client is looked at, in seconds.
 TICK, PAUSE, LOOK = 0.1, 1.0, 0.25
 # Lines that are passed over, but in cases that are about them.
@@ -34,21 +37,24 @@ STRAYS = r"outstation \d+ \S+ a frame (from link address|of function) \d+ .+; .+
 STANDSTILL = r"the host stood still for \d+\.\d s"
 TAKEN, FREE = "all eight places are taken", "a place is free"
 OTHER_HOST = "127.0.0.2"
-GAVE_WAY = "closed: gave way to a newer connection of its address"
+WAY_GIVEN = "gave way to a newer connection of its address"
+GAVE_WAY = f"closed: {WAY_GIVEN}"
+# Hosts for control centres, of which no two have the same.
+HOSTS = map(lambda it: f"127.{200 + it // 65536}.{it // 256 % 256}.{it % 256}", itertools.count(1))
 TROUBLES = ("restarted (IIN1.7)", "its event buffer overflowed (IIN2.3)", "its clock can't be set (IIN1.4 stays)")
 VERSION = (ROOT / "VERSION").read_text().strip()
 
 # Each kind of line, by its priority, which a journal takes from its front: error, warning, information.
 KINDS = {
     3: [
-        r"outstation \d+ \S+ (not connected|lost): .+",
+        r"outstation \d+ \S+ (not connected|lost( again)?): .+",
         r"no connection accepted: .+",
         r"\d+ events? of controls left out",
     ],
     4: [
         r"the address of outstation \d+, .+, has no port",
         r"outstations \d+ and \d+ are both reached at .+, and have the same link address",
-        TAKEN,
+        rf"{TAKEN}(, and \d+ more)?",
         STANDSTILL,
         r"[\d.]+ isn't allowed to connect(, and \d+ more)?",
         r"the recording ended at step \d+: .+",
@@ -60,7 +66,7 @@ KINDS = {
         r"outstation \d+ \S+ doesn't answer a link status",
         r"outstation \d+ \S+ \d+ objects? passed over, of kinds that aren't taken",
         r"outstation \d+ \S+ order \d+ (failed|let go): .+",
-        r"client \d \S+ (lost: .+|closed: (?!the gateway ends|gave way).+)",
+        r"client \d \S+ (lost( again)?: .+|closed( again)?: (?!the gateway ends|gave way).+)",
         r"client \d \S+ \d+ observations? dropped, since too many waited",
         r"client \d \S+ told: .+, negative",
     ],
@@ -70,7 +76,8 @@ KINDS = {
         FREE,
         r"outstation \d+ \S+ (connected|closed: the gateway ends)",
         r"outstation \d+ \S+ order \d+ (given: [0-9A-F ]+|done)",
-        rf"client \d \S+ (connected|data transfer (started|stopped)|closed: the gateway ends|{GAVE_WAY})",
+        r"client \d \S+ (connected|data transfer (started|stopped)|closed: the gateway ends)",
+        rf"client \d \S+ closed( again)?: {WAY_GIVEN}( \(\d+ times since [^)]+\))?(, and \d+ more)?",
         r"client \d \S+ (asks: .+|told: .+: (confirmed|deactivation confirmed|terminated))",
         "stopped",
     ],
@@ -309,10 +316,11 @@ class Scene:
         with self.noted:
             same("lines on standard error", [text for text, _ in self.notes], [])
 
-    def accept(self, outstation):
-        """The gateway connects to an outstation, and asks it for all."""
+    def accept(self, outstation, is_told=True):
+        """The gateway connects to an outstation, which is told or isn't, and asks it for all."""
         link = self.links[outstation] = outstation.accept()
-        link.began = self.told(f"{outstation.name} connected")[1]
+        if is_told:
+            link.began = self.told(f"{outstation.name} connected")[1]
         link.request(0, DISABLE if self.outstations[outstation].get("unsolicited") else INTEGRITY)
         return link
 
@@ -350,8 +358,8 @@ class Scene:
         return at
 
     def client(self, **more):
-        """A control centre connects, and has a place."""
-        centre = Centre(self.port, **more)
+        """A control centre connects, from a host of its own unless one is named, and has a place."""
+        centre = Centre(self.port, **dict(host=next(HOSTS)) | more)
         self.seated(centre)
         return centre
 
@@ -407,6 +415,11 @@ class Scene:
             figures = self.figures()
             found = {name: figures.get(name) for name in names}
         same("figures of the status", found, names)
+
+    def closes(self):
+        """How many connections of control centres ended, for each cause."""
+        figures = [(name.split('"')[3], count) for name, count in self.figures().items() if "client_closes" in name]
+        return {cause: sum(count for it, count in figures if it == cause) for cause, _ in figures}
 
     def finish(self):
         """All control centres go, or standard input ends. The gateway ends by itself, and leaves nothing behind."""

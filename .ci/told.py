@@ -71,7 +71,7 @@ def losses(scene, hosts, undone, late):
     """Connections to outstations and control centres on these hosts end with each error: what wasn't done then, and what
     is told where it took too long."""
     scene.bend()
-    scene.passed_over += r"|outstation \d+ \S+ (connected|not connected: .*)"
+    scene.passed_over += r"|outstation \d+ \S+ (connected|not connected: .*|lost again: .*)"
     words = lambda number: FAILURES[number] if number in ENDING else f"nothing could be {undone}: {FAILURES[number]}"
     outstations = {number: scene.outstation(host=f"{hosts}.{number}") for number in FAILURES}
     scene.start()
