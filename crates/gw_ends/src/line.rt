@@ -138,11 +138,7 @@ impl<W: Outgoing, N: LineCourse> Line<W, N> {
     }
 
     /// Asks for the status of the link.
-    pub fn ask_status<R: Wait>(
-        &self,
-        rt: &R,
-        mine: &mut Front<Sending, N>,
-    ) -> Result<(), Unwritten>
+    pub fn ask_status<R: Wait>(&self, rt: &R, mine: &mut Front<Sending, N>) -> Result<(), Unwritten>
         ensures sent { IsSent mine.old mine.new sents.Status (is_ok result) }
     {
         self.held.lock(rt).send(Sent::Status, mine)

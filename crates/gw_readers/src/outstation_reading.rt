@@ -170,8 +170,7 @@ impl<
     }
 
     /// One piece. How the worker ends, if it does.
-    #[tactic(auto, using(gw_ends::proofs::Failed::reading_fails, gw_ends::proofs::Failed::frames_read,
-        gw_ends::proofs::Failed::silence_reads, crate::proofs::Confirming::reads_none))]
+    #[tactic(auto, using(gw_ends::proofs::Failed::reading_fails, gw_ends::proofs::Failed::frames_read, gw_ends::proofs::Failed::silence_reads, crate::proofs::Confirming::reads_none))]
     fn read<I: Incoming>(
         &mut self,
         feed: &mut LinkFeed,

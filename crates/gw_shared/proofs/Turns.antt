@@ -23,14 +23,14 @@ answered setup old new mine after step answer steps counted =
       })
       | inr last ↦ let refused = steps.1 last in
           inr (record {
-        whole = old.past;
-        follows = refused.follows;
-        course = refused.reached.course;
-        count = refused.reached.count ∙ last;
-        pass = refused.pass;
-        number_is = refused.number_is;
-        refused = refused.refused;
-      })
+            whole = old.past;
+            follows = refused.follows;
+            course = refused.reached.course;
+            count = refused.reached.count ∙ last;
+            pass = refused.pass;
+            number_is = refused.number_is;
+            refused = refused.refused;
+          })
     ]
   where
     one_more : (past : List Deed) → suc (length past) ≡ length past + 1
