@@ -1,10 +1,11 @@
 //! A gate that holds workers until clients have taken an interrogation's termination, and one of them until others are held.
 
+use gw_threads::Call;
 use std::rt::Clock;
 use std::sync::atomic::{AtomicBool, AtomicU64, Ordering};
 use std::thread;
 use std::time::Duration;
-use test_tools::{Gate, Place};
+use test_tools::{Gate, Place, Reply};
 
 /// How often a worker that is held looks whether it may go on, a millisecond apart.
 const LOOKS: u16 = 10_000;
@@ -32,8 +33,9 @@ const LAST: u64 = 1;
 /// Holds the reader of outstation 0 before its first step, the writer of client 0 before its first write, and the
 /// reader of client 1 behind the step of its last APDU, until client 1 has taken an interrogation's termination; and
 /// the reader of client 0 behind the step of its last APDU, until client 0 has taken one. The reader of client 1 is held
-/// before each step until the first two are, so a lock that one of them keeps then is in its way; and until outstation 0
-/// is about to be asked, so there is a request each time.
+/// before each step until the first two are, so a lock that one of them keeps then is in its way; until outstation 0 is
+/// about to be asked, so there is a request each time; and until ticks are made, which a lock that it keeps itself would
+/// not let through.
 #[derive(Drop)]
 pub struct Held<'a, R> {
     pub rt: &'a R,
@@ -48,6 +50,8 @@ pub struct Held<'a, R> {
     pub is_decoded: AtomicBool,
     pub is_asked: AtomicBool,
     pub is_answered: AtomicBool,
+    /// How many ticks were made.
+    pub ticks: AtomicU64,
     /// Whether one of them was held for too long.
     pub is_late: AtomicBool,
 }
@@ -64,6 +68,7 @@ impl<'a, R> Held<'a, R> {
             is_decoded: AtomicBool::new(false),
             is_asked: AtomicBool::new(false),
             is_answered: AtomicBool::new(false),
+            ticks: AtomicU64::new(0),
             is_late: AtomicBool::new(false),
         }
     }
@@ -82,6 +87,18 @@ impl<'a, R: Clock> Held<'a, R> {
             && is_set(self.rt, &self.is_answered)
             && is_set(self.rt, &self.is_asked)
     }
+
+    /// Waits until two more ticks are told: the step of the second is made from here on. Whether they are in time.
+    fn is_ticked(&self) -> bool {
+        let before = self.ticks.load(Ordering::SeqCst);
+        for _ in 0..LOOKS {
+            if self.ticks.load(Ordering::SeqCst).saturating_sub(before) >= 2 {
+                return true;
+            }
+            thread::sleep(self.rt, Duration::from_millis(1));
+        }
+        false
+    }
 }
 
 impl<'a, R: Clock> Gate for Held<'a, R> {
@@ -93,7 +110,7 @@ impl<'a, R: Clock> Gate for Held<'a, R> {
         let is_in_time = match (place, actor) {
             (Place::Decoded, OUTSTATION_0_READER) => self.stands(&self.is_decoded),
             (Place::BeforeWrite, CLIENT_0_WRITER) => self.stands(&self.is_answered),
-            (Place::Decoded, CLIENT_1_READER) => self.others_stand(),
+            (Place::Decoded, CLIENT_1_READER) => self.others_stand() && self.is_ticked(),
             (Place::Stepped, CLIENT_0_READER)
                 if self.stepped_0.fetch_add(1, Ordering::SeqCst) == LAST => {
                 is_set(self.rt, self.is_served_0)
@@ -110,6 +127,12 @@ impl<'a, R: Clock> Gate for Held<'a, R> {
         };
         if !is_in_time {
             self.is_late.store(true, Ordering::SeqCst);
+        }
+    }
+
+    fn made(&self, call: &Call<'_>, _line: Option<Vec<u8>>) {
+        if let Ok(Reply::Ticked { .. }) = call.reply {
+            self.ticks.fetch_add(1, Ordering::SeqCst);
         }
     }
 }
