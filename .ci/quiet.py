@@ -10,7 +10,7 @@ UNASKED = dict(unsolicited=True, poll_ms=86_400_000, response_ms=500)
 PATIENCE = 0.5
 # REQUEST_LINK_STATUS of a master and LINK_STATUS of an outstation; behind how many seconds of silence it is asked for, and how
 # many lie between two looks at a silent link at most.
-ASKED, STATUS, SILENCE, LOOK = 0xC9, 0x0B, 60, 1.0
+ASKED, STATUS, SILENCE, LOOK = 0xC9, 0x0B, 60, 4.0
 
 
 def begun(scene, count):

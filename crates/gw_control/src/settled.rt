@@ -1,5 +1,6 @@
 //! How orders end, and how many did.
 ghost use Rattle.std.specs.Prelude.{◌≡◌, ◌-◌};
+ghost use Rattle.gw_control.specs.Counts.{counting_accepted, counting_answered, counting_ended, no_orders, one_more};
 
 /// What became of an order without an answer of its outstation.
 #[derive(Clone, Copy, PartialEq)]
@@ -36,14 +37,18 @@ pub struct OrderCounts {
     pub let_go: u64,
 }
 
-/// One more.
-fn add_one(count: &mut u64) {
+/// One more, or the most that there can be.
+fn add_one(count: &mut u64)
+    ensures { count.new ≡ one_more count.old }
+{
     *count = count.saturating_add(1);
 }
 
 impl OrderCounts {
     /// None.
-    pub fn nothing() -> OrderCounts {
+    pub fn nothing() -> OrderCounts
+        ensures { result ≡ no_orders }
+    {
         OrderCounts {
             accepted: 0,
             done: 0,
@@ -63,12 +68,16 @@ impl OrderCounts {
     }
 
     /// One more was accepted.
-    pub fn accept(&mut self) {
+    pub fn accept(&mut self)
+        ensures { self.new ≡ counting_accepted self.old }
+    {
         add_one(&mut self.accepted);
     }
 
     /// One ended with an answer.
-    pub fn answer(&mut self, done: bool) {
+    pub fn answer(&mut self, done: bool)
+        ensures { self.new ≡ counting_answered done self.old }
+    {
         if done {
             add_one(&mut self.done);
         } else {
@@ -77,7 +86,9 @@ impl OrderCounts {
     }
 
     /// One ended without one.
-    pub fn settle(&mut self, fate: Fate) {
+    pub fn settle(&mut self, fate: Fate)
+        ensures { self.new ≡ counting_ended fate self.old }
+    {
         match fate {
             Fate::Lost | Fate::Unanswered => add_one(&mut self.failed),
             Fate::LetGo => add_one(&mut self.let_go),

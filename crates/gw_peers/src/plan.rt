@@ -10,8 +10,9 @@ use std::time::Duration;
 /// The milliseconds that connecting may take at most.
 const LONGEST_CONNECTING_MS: u64 = 5000;
 
-/// The milliseconds that its reader waits at most for octets before it looks at the link.
-const LONGEST_WAIT_MS: u64 = 1000;
+/// The milliseconds that its reader waits at most for octets before it looks at the link. Each look wakes a thread, so a gateway
+/// at rest with many outstations takes more of a processor where it is shorter.
+const LONGEST_WAIT_MS: u64 = 4000;
 
 /// The way to an outstation.
 #[derive(Drop)]
@@ -26,6 +27,11 @@ pub struct Plan {
     pub silence: Duration,
     /// How long a response may take, and so a write.
     pub response: Duration,
+}
+
+/// A duration in milliseconds, or the most that there can be.
+fn milliseconds(duration: Duration) -> u64 {
+    u64::try_from(duration.as_millis()).unwrap_or(u64::MAX)
 }
 
 impl Plan {
@@ -46,18 +52,17 @@ impl Plan {
     /// How long its reader waits at most before it takes a fragment, for clients that have no room for that, in
     /// milliseconds: so short that an answer which waits meanwhile still comes in time.
     pub fn patience_ms(&self) -> u64 {
-        let quarter = self.response / 4;
-        u64::try_from(quarter.as_millis()).unwrap_or(0)
+        self.response_ms() / 4
     }
 
     /// How long it may be silent, or answer nothing, in milliseconds.
     pub fn silence_ms(&self) -> u64 {
-        u64::try_from(self.silence.as_millis()).unwrap_or(u64::MAX)
+        milliseconds(self.silence)
     }
 
     /// How long a response may take, in milliseconds.
     pub fn response_ms(&self) -> u64 {
-        u64::try_from(self.response.as_millis()).unwrap_or(u64::MAX)
+        milliseconds(self.response)
     }
 
     /// In how many waits for octets, each of which is as long, it may be silent.
