@@ -142,6 +142,9 @@ class Log:
 class House:
     """A gateway with random settings between an honest and some hostile outstations, and an honest control centre."""
 
+    # Whether the program checks its addresses as it runs.
+    is_checked = False
+
     def __init__(self, program, seed, number, folder):
         self.program, self.number, self.rng = program, number, random.Random(f"{seed} house {number}")
         self.outstations = [Outstation(it) for it in range(1 + OUTSTATIONS)]
@@ -184,10 +187,11 @@ class House:
 
         Beside 24 MB for the program and its threads: what waits for clients, in the core and two copies of the
         recorder's; each step that the recorder keeps, of which the largest has the octets of a fragment; and eight
-        fragments of 16,296 packed inputs that are taken. An observation and a report have up to 96 octets.
+        fragments of 16,296 packed inputs that are taken. An observation and a report have up to 96 octets. A program that
+        checks its addresses keeps what it has released for a while, and notes beside its memory: it may have twice as much.
         """
         queue, steps, taken = 3 * QUEUE * 96, self.recorder * 4096, 8 * 2**14 * 96
-        return (24 * 2**20 + queue + steps + taken) // 1024
+        return (1 + self.is_checked) * (24 * 2**20 + queue + steps + taken) // 1024
 
     def start(self):
         """Starts the gateway and the honest peers, and waits until all outstations are connected."""
