@@ -8,8 +8,10 @@ use Rattle.gw_model.specs.declared.control.Shape.TheVariants.{Latch}
 use Rattle.gw_model.specs.declared.poll.Poll.{Poll}
 use Rattle.dnp_app.specs.Response.{Fragment}
 use Rattle.dnp_app.specs.Requests.{octets_of}
+use Rattle.dnp_master.specs.declared.answered.CommandAnswer.{CommandAnswer}
 use Rattle.dnp_master.specs.declared.verdict.Verdict.{Verdict}
 use Rattle.dnp_master.specs.Master.{Master, master_down, master_after_up, master_after_next, master_after_order, master_after_tick, request_given, request_ordered, ended_by_loss, ended_by_tick}
+use Rattle.dnp_master.specs.Answers.{command_answer}
 use Rattle.dnp_master.specs.Fragments.{master_after_fragment, verdict_of}
 
 -- polled for events every 2 seconds and wholly every hour, answers are awaited for 5 seconds
@@ -58,6 +60,10 @@ given poll events moment wall = option_map octets_of (request_given moment wall 
 
 abbrev pub judged : Poll → List Event → List ℕ → Verdict
 judged poll events octets = verdict_of (after poll events) (response octets)
+
+-- how it answers the command that awaits it
+abbrev pub answered : Poll → List Event → List ℕ → Option CommandAnswer
+answered poll events octets = command_answer (after poll events).exchange (response octets)
 
 -- ---- orders
 

@@ -1,3 +1,4 @@
 pub mod Master
 pub mod Fragments
+pub mod Answers
 pub mod Example

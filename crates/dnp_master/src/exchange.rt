@@ -1,10 +1,12 @@
 //! The request that awaits its answer.
 ghost use Rattle.std.specs.Prelude.{◌≡◌, ◌<◌, false, option_map};
+ghost use Rattle.dnp_master.specs.Answers.{command_answer, is_exchange_late, operation_awaited};
 ghost use Rattle.dnp_master.specs.Fragments.{exchange_once_answered};
 ghost use Rattle.dnp_master.specs.Master.{ended, following, is_late, order_taken};
 
+use crate::answered::CommandAnswer;
 use crate::task::Task;
-use dnp_app::Operation;
+use dnp_app::{Operation, Response};
 use gw_model::{Ended, Order, Poll};
 
 /// A request that awaits its answer, or the next fragment of it.
@@ -47,6 +49,36 @@ impl Exchange {
         match task {
             Task::Command(Operation::Select, order) if done => Exchange::Selected(order),
             _ => Exchange::Idle,
+        }
+    }
+
+    /// The operation that awaits its answer, where the request is of an order.
+    pub fn operation(self) -> Option<Operation>
+        ensures { result ≡ operation_awaited self }
+    {
+        match self {
+            Exchange::Waiting(awaited) => awaited.task.operation(),
+            Exchange::Idle | Exchange::Selected(_) => None,
+        }
+    }
+
+    /// How a response answers the command that awaits it, if one does.
+    pub fn answer(self, response: &Response) -> Option<CommandAnswer>
+        ensures { result ≡ command_answer self response.now }
+    {
+        match self {
+            Exchange::Waiting(awaited) => awaited.task.answer(response),
+            Exchange::Idle | Exchange::Selected(_) => None,
+        }
+    }
+
+    /// Whether the time for the answer to a request has passed at a moment.
+    pub fn is_late(&self, moment: u64, poll: &Poll) -> bool
+        ensures { result ≡ is_exchange_late moment poll.now self.now }
+    {
+        match self {
+            Exchange::Waiting(awaited) => awaited.is_late(moment, poll),
+            Exchange::Idle | Exchange::Selected(_) => false,
         }
     }
 

@@ -2,6 +2,7 @@
 //! becomes of fragments.
 #![tactic(auto)]
 
+mod answered;
 mod due;
 mod examples;
 mod exchange;
@@ -12,7 +13,10 @@ mod order_examples;
 mod task;
 mod verdict;
 
+pub use answered::{CommandAnswer, Taken};
 pub use examples::{requests_by_example, tasks_by_example, verdicts_by_example};
 pub use master::Master;
-pub use order_examples::{direct_operate_by_example, select_and_operate_by_example};
+pub use order_examples::{
+    answers_by_example, direct_operate_by_example, select_and_operate_by_example,
+};
 pub use verdict::{Ignored, Verdict};

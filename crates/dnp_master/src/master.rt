@@ -19,6 +19,7 @@ ghost use Rattle.dnp_master.specs.Master.{
   task_given,
   task_request,
 };
+ghost use Rattle.dnp_master.specs.Answers.{command_answer, is_unanswered, operation_awaited};
 ghost use Rattle.dnp_master.specs.Fragments.{
   accepts,
   indications_in,
@@ -33,6 +34,7 @@ ghost use Rattle.dnp_master.specs.Fragments.{
   verdict_of_unsolicited,
 };
 
+use crate::answered::CommandAnswer;
 use crate::due::DueTasks;
 use crate::exchange::{Awaited, Exchange, following};
 use crate::indications::Indications;
@@ -268,6 +270,28 @@ impl Master {
         ensures { result ≡ accepts self.now response.now }
     {
         matches!(self.judge(response), Verdict::Accepted { .. })
+    }
+
+    /// How a response answers the command that awaits its answer, if one does: it ends that where it is accepted and the
+    /// last fragment of the answer.
+    pub fn command_answer(&self, response: &Response) -> Option<CommandAnswer>
+        ensures { result ≡ command_answer self.now.exchange response.now }
+    {
+        self.exchange.answer(response)
+    }
+
+    /// The operation that awaits its answer, where the request is of an order.
+    pub fn operation_awaited(&self) -> Option<Operation>
+        ensures { result ≡ operation_awaited self.now.exchange }
+    {
+        self.exchange.operation()
+    }
+
+    /// Whether the time for the answer to a request has passed at a moment, so that `tick` ends it.
+    pub fn is_unanswered(&self, moment: u64) -> bool
+        ensures { result ≡ is_unanswered moment self.now }
+    {
+        self.exchange.is_late(moment, &self.poll)
     }
 
     /// Takes a response at a moment. Where it isn't accepted nothing changes.

@@ -3,9 +3,12 @@ ghost use Rattle.std.specs.Prelude.{◌≡◌, [], ◌∷◌, ◌++◌, Some, No
 ghost use Rattle.dnp_app.specs.Requests.{clear_restart_octets, read_octets, record_time_octets};
 ghost use Rattle.dnp_master.specs.declared.verdict.Verdict.TheVariants.{Accepted, Ignored};
 ghost use Rattle.dnp_master.specs.declared.verdict.Ignored.TheVariants.{NoRequest, WrongSequence};
+ghost use Rattle.dnp_app.specs.declared.operation.Operation.TheVariants.{DirectOperate, Select};
+ghost use Rattle.dnp_master.specs.declared.answered.Taken.TheVariants.{Done, Otherwise, Refused};
 ghost use Rattle.dnp_master.specs.Master.{is_ready};
 ghost use Rattle.dnp_master.specs.Example.{
   after,
+  answered,
   failed,
   given,
   judged,
@@ -146,4 +149,26 @@ pub fn select_and_operate_by_example()
     ensures lost_selected { lost plain selected ≡ Some failed }
     ensures lost_operating { lost plain operating ≡ Some failed }
     ensures lost_after { lost plain (operating ++ Comes 0 (setpoint_answer (0xC2 ∷ 0x81 ∷ 0 ∷ 0 ∷ []) 0) ∷ []) ≡ None }
+{}
+
+/// How an outstation takes a command, by its echo.
+#[tactic(auto, unfolding(dnp_objects::specs::Headers::headers_from, dnp_objects::specs::Library::object_of))]
+pub fn answers_by_example()
+    ensures done { answered plain latched (latch_answer (0xC1 ∷ 0x81 ∷ 0 ∷ 0 ∷ []) 0)
+        ≡ Some (record { operation = DirectOperate; taken = Done }) }
+    // Local control (status 7), and a status that no table has.
+    ensures local { answered plain latched (latch_answer (0xC1 ∷ 0x81 ∷ 0 ∷ 0 ∷ []) 7)
+        ≡ Some (record { operation = DirectOperate; taken = Refused 7 }) }
+    ensures largest { answered plain latched (latch_answer (0xC1 ∷ 0x81 ∷ 0 ∷ 0 ∷ []) 255)
+        ≡ Some (record { operation = DirectOperate; taken = Refused 255 }) }
+    // None, and one of another output, with whatever status.
+    ensures none { answered plain latched (0xC1 ∷ 0x81 ∷ 0 ∷ 0 ∷ [])
+        ≡ Some (record { operation = DirectOperate; taken = Otherwise }) }
+    ensures other_index { answered plain latched (0xC1 ∷ 0x81 ∷ 0 ∷ 0 ∷ 0x0C ∷ 0x01 ∷ 0x28 ∷ 0x01 ∷ 0x00 ∷ 0x04 ∷ 0x00
+        ∷ 0x03 ∷ 0x01 ∷ 0 ∷ 0 ∷ 0 ∷ 0 ∷ 0 ∷ 0 ∷ 0 ∷ 0 ∷ 7 ∷ [])
+        ≡ Some (record { operation = DirectOperate; taken = Otherwise }) }
+    // Of the requests of an order with SELECT the one that awaits its answer counts; of a poll there is nothing to take.
+    ensures select { answered plain selecting (0xC1 ∷ 0x81 ∷ 0 ∷ 0 ∷ [])
+        ≡ Some (record { operation = Select; taken = Otherwise }) }
+    ensures poll { answered plain (Polls 0 0 ∷ []) (0xC0 ∷ 0x81 ∷ 0 ∷ 0 ∷ []) ≡ None }
 {}

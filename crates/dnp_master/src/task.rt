@@ -1,8 +1,10 @@
 //! What the master asks an outstation for.
 ghost use Rattle.std.specs.Prelude.{◌≡◌, ◌<◌, false, option_map, IfSome};
+ghost use Rattle.dnp_master.specs.Answers.{task_answer, task_operation};
 ghost use Rattle.dnp_master.specs.Fragments.{ended_answered, ended_with, is_done};
 ghost use Rattle.dnp_master.specs.Master.{ended, order_of, order_task, task_request, MeantBy};
 
+use crate::answered::{CommandAnswer, taken_by};
 use dnp_app::{
     Operation, Request, Response, clear_restart, control_request, disable, enable, read_poll,
     record_time, write_time,
@@ -82,6 +84,29 @@ impl Task {
                 echo.is_taken(order.intent.index, order.intent.act)
             }
             _ => false,
+        }
+    }
+
+    /// The operation that the task asks for, where it is of an order.
+    pub fn operation(self) -> Option<Operation>
+        ensures { result ≡ task_operation self }
+    {
+        match self {
+            Task::Command(operation, _) => Some(operation),
+            _ => None,
+        }
+    }
+
+    /// How the last fragment of its answer answers the task, where it is of an order.
+    pub fn answer(self, response: &Response) -> Option<CommandAnswer>
+        ensures { result ≡ task_answer self response.now }
+    {
+        match self {
+            Task::Command(operation, order) => Some(CommandAnswer {
+                operation,
+                taken: taken_by(order.intent.index, order.intent.act, response.echo()),
+            }),
+            _ => None,
         }
     }
 

@@ -16,7 +16,9 @@ use Rattle.gw_control.specs.declared.selection.Selection.{Selection}
 use Rattle.gw_control.specs.Intents.{intent_of}
 use Rattle.gw_control.specs.Selections.{asks_same, is_own, is_selected, is_taken}
 use Rattle.gw_control.specs.Orders.{Outgoing, is_full, is_named, is_of_others, nothing_outgoing, numbers_of, outgoing_after_end, outgoing_after_ended, outgoing_after_lost, outgoing_after_taking, outgoing_with, IsInOrder, Rise}
-use Rattle.gw_control.specs.Controls.{Controls, NotPermitted, OutstationDown, SelectedByAnother, NotSelected, NoPlace, act_accepted, act_by, act_unless, confirmed_if, is_full_at, is_order, AreInOrder, IsAccepted, IsSelectedFor}
+use Rattle.gw_control.specs.declared.refusal.Refusal.{Refusal}
+use Rattle.gw_control.specs.declared.refusal.Refusal.TheVariants.{OutstationDown, SelectedByAnother, NoPlace}
+use Rattle.gw_control.specs.Controls.{Controls, act_accepted, act_by, act_unless, confirmed_if, element_refusal, is_full_at, is_order, selection_refusal, AreInOrder, IsAccepted, IsSelectedFor}
 use Rattle.gw_control.proofs.Places.{all_alike, all_changed, all_mapped}
 
 -- ---- numbers that rise
@@ -170,16 +172,16 @@ end_keeps count client os all =
 
 -- ---- an execute that is accepted
 
-allowed : (a b c d e : Bool) (act : Option Act) (x : Act)
-    → act_unless (first_of (when a NotPermitted ∷ when b OutstationDown ∷ when c SelectedByAnother ∷ when d NotSelected
+allowed : (r s : Refusal) (a b c d e : Bool) (act : Option Act) (x : Act)
+    → act_unless (first_of (when a r ∷ when b OutstationDown ∷ when c SelectedByAnother ∷ when d s
     ∷ when e NoPlace ∷ [])) act ≡ Some x
     → (act ≡ Some x) × (b ≡ false) × (c ≡ false) × (d ≡ false) × (e ≡ false)
-allowed true b c d e act x is = absurd (let none : ⊥ = cc in none)
-allowed false true c d e act x is = absurd (let none : ⊥ = cc in none)
-allowed false false true d e act x is = absurd (let none : ⊥ = cc in none)
-allowed false false false true e act x is = absurd (let none : ⊥ = cc in none)
-allowed false false false false true act x is = absurd (let none : ⊥ = cc in none)
-allowed false false false false false act x is = (is, refl, refl, refl, refl)
+allowed r s true b c d e act x is = absurd (let none : ⊥ = cc in none)
+allowed r s false true c d e act x is = absurd (let none : ⊥ = cc in none)
+allowed r s false false true d e act x is = absurd (let none : ⊥ = cc in none)
+allowed r s false false false true e act x is = absurd (let none : ⊥ = cc in none)
+allowed r s false false false false true act x is = absurd (let none : ⊥ = cc in none)
+allowed r s false false false false false act x is = (is, refl, refl, refl, refl)
 
 so : (b : Bool) → not b ≡ false → b ≡ true
 so true e = refl
@@ -211,7 +213,8 @@ selected_for a (Some s) e =
 pub accepted : (a : AskedCommand) (control : Control) (standing : Option Selection) (v : Controls) (act : Act)
     → act_accepted a control standing v ≡ Some act → IsAccepted a control standing v act
 accepted a control standing v act is =
-    let k = allowed (is_none (act_by a control)) (not a.up) (is_taken a standing)
+    let k = allowed (element_refusal a.command.action control.operates) (selection_refusal a standing)
+    (is_none (act_by a control)) (not a.up) (is_taken a standing)
     (control.select && not (is_selected a standing)) (is_full_at (slice_get v.outgoing control.outstation))
     (act_by a control) act is in
     record {

@@ -11,7 +11,9 @@ use Rattle.gw_control.specs.declared.asked.AskedCommand.{AskedCommand}
 use Rattle.gw_control.specs.declared.selection.Selection.{Selection}
 use Rattle.gw_control.specs.Intents.{control_for}
 use Rattle.gw_control.specs.Selections.{is_fresh, is_open, is_select, is_session, selection_by, standing_in, stands, unselected_by}
-use Rattle.gw_control.specs.Controls.{Controls, NotPermitted, SelectedByAnother, act_accepted, act_by, controls_after_at, controls_ordering, controls_selecting, controls_unselecting, is_deactivation, is_selectable, standing_at}
+use Rattle.gw_control.specs.declared.refusal.Refusal.{Refusal}
+use Rattle.gw_control.specs.declared.refusal.Refusal.TheVariants.{SelectedByAnother}
+use Rattle.gw_control.specs.Controls.{Controls, act_accepted, act_by, controls_after_at, controls_ordering, controls_selecting, controls_unselecting, element_refusal, is_deactivation, is_selectable, standing_at}
 use Rattle.gw_control.specs.Moves.{Move, Comes, Takes, Ends, Loses, Leaves, after_move, is_at, Spares}
 
 -- ---- a selection that stands
@@ -120,13 +122,14 @@ apart_cases true false place e = absurd (let none : ⊥ = cc in none)
 -- a select is confirmed where nobody else has the control selected
 selectable_alone : (a : AskedCommand) (control : Control) (s : Selection) → is_selectable a control (Some s) ≡ true
     → (s.client == a.client) ≡ true
-selectable_alone a control s e = alone (is_none (act_by a control)) (s.client == a.client) e
+selectable_alone a control s e =
+    alone (element_refusal a.command.action control.operates) (is_none (act_by a control)) (s.client == a.client) e
   where
-    alone : (none same : Bool) → is_none (first_of (when none NotPermitted ∷ when (not same) SelectedByAnother ∷ []))
-        ≡ true → same ≡ true
-    alone true same e = absurd (let none : ⊥ = cc in none)
-    alone false true e = refl
-    alone false false e = absurd (let none : ⊥ = cc in none)
+    alone : (r : Refusal) (none same : Bool)
+        → is_none (first_of (when none r ∷ when (not same) SelectedByAnother ∷ [])) ≡ true → same ≡ true
+    alone r true same e = absurd (let none : ⊥ = cc in none)
+    alone r false true e = refl
+    alone r false false e = absurd (let none : ⊥ = cc in none)
 
 -- at its control, by a command that comes no later
 selecting_elsewhere : (setup : Setup) (a : AskedCommand) (control : Control) (q p moment : ℕ) (v : Controls)

@@ -11,14 +11,19 @@ use Rattle.gw_entries.specs.declared.control.Control.{Control}
 use Rattle.gw_entries.specs.declared.control.Mode.{Mode}
 use Rattle.gw_entries.specs.declared.control.Mode.TheVariants.{Direct, Sbo}
 use Rattle.gw_map.specs.Settings.{Setup}
+use Rattle.gw_entries.specs.declared.control.Operates.{Operates}
+use Rattle.gw_entries.specs.declared.control.Operates.TheVariants as operated
 use Rattle.iec_command.specs.declared.command.Action.{Action}
+use Rattle.iec_command.specs.declared.command.Action.TheVariants.{Double, Setpoint}
 use Rattle.gw_control.specs.declared.asked.AskedCommand.{AskedCommand}
 use Rattle.gw_control.specs.declared.accepted.Accepted.{Accepted}
 use Rattle.gw_control.specs.declared.answer.Answer.{Answer}
 use Rattle.gw_control.specs.declared.answer.Answer.TheVariants.{Confirm, Negative, Unknown, Ordered}
 use Rattle.gw_control.specs.declared.answer.Outcome.{Outcome}
 use Rattle.gw_control.specs.declared.selection.Selection.{Selection}
-use Rattle.gw_control.specs.Intents.{act_of, command_intent, control_for, intent_of}
+use Rattle.gw_control.specs.declared.refusal.Refusal.{Refusal}
+use Rattle.gw_control.specs.declared.refusal.Refusal.TheVariants.{Qualifier, NoState, OutOfRange, OutstationDown, SelectedByAnother, NotSelected, UnlikeSelect, NoPlace}
+use Rattle.gw_control.specs.Intents.{act_of, command_intent, control_for, intent_of, state_of}
 use Rattle.gw_control.specs.Selections.{asks_same, is_own, is_select, is_selected, is_taken, selection_by, standing_in, unselected_by}
 use Rattle.gw_control.specs.Orders.{Outgoing, is_full, nothing_outgoing, order_given, outcome_at, outcome_lost, outgoing_after_end, outgoing_after_ended, outgoing_after_lost, outgoing_after_taking, outgoing_with, IsInOrder}
 
@@ -56,39 +61,44 @@ standing_at setup moment position v =
 
 -- ---- why a command is answered negatively
 
-pub data Refusal : Type 0 where
-  -- it asks for what isn't permitted, or for a value that leaves 16 bits
-  NotPermitted : Refusal
-  OutstationDown : Refusal
-  SelectedByAnother : Refusal
-  -- by this client, in this session, for the same
-  NotSelected : Refusal
-  -- 16 orders wait for the outstation
-  NoPlace : Refusal
-
 -- what it does to its control
 abbrev pub act_by : AskedCommand → Control → Option Act
 act_by a control = act_of a.command.action control.operates
+
+-- what of its element isn't permitted, where it does nothing
+abbrev pub element_refusal : Action → Operates → Refusal
+element_refusal (Double command) (operated.Double pulses) =
+    if is_none (state_of command.state) then NoState else Qualifier
+element_refusal (Setpoint command) (operated.Setpoint scale) = if command.qualifier == 0 then OutOfRange else Qualifier
+element_refusal _ _ = Qualifier
+
+-- the client has it selected for something else, or hasn't
+abbrev pub selection_refusal : AskedCommand → Option Selection → Refusal
+selection_refusal a standing = if is_own a standing then UnlikeSelect else NotSelected
 
 -- no further order may wait; none may where there is no such outstation
 abbrev pub is_full_at : Option Outgoing → Bool
 is_full_at None = true
 is_full_at (Some o) = is_full o
 
+-- of a deactivation
+abbrev pub refusals_of_deactivation : AskedCommand → Option Selection → List (Option Refusal)
+refusals_of_deactivation a standing = when (not (is_own a standing)) NotSelected ∷ []
+
 -- of a select
 abbrev pub refusals_of_select : AskedCommand → Control → Option Selection → List (Option Refusal)
 refusals_of_select a control standing =
-    when (is_none (act_by a control)) NotPermitted
+    when (is_none (act_by a control)) (element_refusal a.command.action control.operates)
     ∷ when (is_taken a standing) SelectedByAnother
     ∷ []
 
 -- of an execute
 abbrev pub refusals_of_execute : AskedCommand → Control → Option Selection → Controls → List (Option Refusal)
 refusals_of_execute a control standing v =
-    when (is_none (act_by a control)) NotPermitted
+    when (is_none (act_by a control)) (element_refusal a.command.action control.operates)
     ∷ when (not a.up) OutstationDown
     ∷ when (is_taken a standing) SelectedByAnother
-    ∷ when (control.select && not (is_selected a standing)) NotSelected
+    ∷ when (control.select && not (is_selected a standing)) (selection_refusal a standing)
     ∷ when (is_full_at (slice_get v.outgoing control.outstation)) NoPlace
     ∷ []
 
@@ -124,12 +134,27 @@ answer_for a control standing v =
     else if is_select a.command.action then confirmed_if (is_selectable a control standing)
     else answer_to_act v.ordered (act_accepted a control standing v)
 
+-- why it is answered negatively, if it is
+abbrev pub refusal_for : AskedCommand → Control → Option Selection → Controls → Option Refusal
+refusal_for a control standing v =
+    if is_deactivation a then first_of (refusals_of_deactivation a standing)
+    else if is_select a.command.action then first_of (refusals_of_select a control standing)
+    else first_of (refusals_of_execute a control standing v)
+
 abbrev pub answer_at : Setup → AskedCommand → Option (ℕ × Control) → Controls → Answer
 answer_at setup a None v = Unknown
 answer_at setup a (Some found) v = answer_for a found.1 (standing_at setup a.moment found.0 v) v
 
 abbrev pub answer_of : Setup → AskedCommand → Controls → Answer
 answer_of setup a v = answer_at setup a (control_for setup a.command) v
+
+-- none where no control of its type has the addresses: that is answered otherwise
+abbrev pub refusal_at : Setup → AskedCommand → Option (ℕ × Control) → Controls → Option Refusal
+refusal_at setup a None v = None
+refusal_at setup a (Some found) v = refusal_for a found.1 (standing_at setup a.moment found.0 v) v
+
+abbrev pub refusal_of : Setup → AskedCommand → Controls → Option Refusal
+refusal_of setup a v = refusal_at setup a (control_for setup a.command) v
 
 abbrev pub is_order : Answer → Bool
 is_order Confirm = false

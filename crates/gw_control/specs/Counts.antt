@@ -26,7 +26,7 @@ counting_answered done counts =
     if done then record counts { done = one_more counts.done } else counting_failed counts
 
 -- one more ended without an answer
-pub counting_ended : Fate → OrderCounts → OrderCounts
+abbrev pub counting_ended : Fate → OrderCounts → OrderCounts
 counting_ended Lost counts = counting_failed counts
 counting_ended Unanswered counts = counting_failed counts
 counting_ended LetGo counts = record counts { let_go = one_more counts.let_go }

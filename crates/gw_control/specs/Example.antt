@@ -18,10 +18,11 @@ use Rattle.iec_command.specs.declared.command.Action.{Action}
 use Rattle.iec_command.specs.Example.{command, single, double, setpoint}
 use Rattle.gw_control.specs.declared.answer.Answer.{Answer}
 use Rattle.gw_control.specs.declared.answer.Outcome.{Outcome}
+use Rattle.gw_control.specs.declared.refusal.Refusal.{Refusal}
 use Rattle.gw_control.specs.declared.asked.AskedCommand.{AskedCommand}
 use Rattle.gw_control.specs.Selections.{asked}
 use Rattle.gw_control.specs.Orders.{order_given}
-use Rattle.gw_control.specs.Controls.{Controls, answer_of, controls_after_command, controls_after_end, controls_after_ended, controls_after_taking, no_controls, order_at, outcome_ended_at, outcome_lost_at}
+use Rattle.gw_control.specs.Controls.{Controls, answer_of, controls_after_command, controls_after_end, controls_after_ended, controls_after_taking, no_controls, order_at, outcome_ended_at, outcome_lost_at, refusal_of}
 
 -- ---- settings
 
@@ -174,6 +175,10 @@ after_end client commands = controls_after_end client (after commands)
 -- and then this one came
 abbrev pub answered : List AskedCommand → AskedCommand → Answer
 answered commands a = answer_of setup a (after commands)
+
+-- and this one was refused for this, or wasn't
+abbrev pub refused : List AskedCommand → AskedCommand → Option Refusal
+refused commands a = refusal_of setup a (after commands)
 
 abbrev pub times : ℕ → AskedCommand → List AskedCommand
 times zero a = []

@@ -1,10 +1,14 @@
 //! Selections and orders of all clients.
-ghost use Rattle.std.specs.Prelude.{◌≡◌, ◌<◌, ◌+◌, ◌^◌, true, false, is_some, map, replicate, slice_get, IfOk};
+ghost use Rattle.std.specs.Prelude.{◌≡◌, ◌<◌, ◌+◌, ◌^◌, true, false, is_none, is_some, map, not, replicate, slice_get, IfOk};
+ghost use Rattle.gw_model.specs.First.{first_of, when};
+ghost use Rattle.gw_control.specs.declared.refusal.Refusal.TheVariants.{NotSelected};
 ghost use Rattle.gw_model.specs.Places.{change};
 ghost use Rattle.gw_control.specs.Orders.{nothing_outgoing, outgoing_after_end, outgoing_after_ended, outgoing_after_lost, outgoing_after_taking, outgoing_with};
-ghost use Rattle.gw_control.specs.Selections.{asked, unselected_by};
+ghost use Rattle.gw_control.specs.Selections.{asked, is_own, unselected_by};
 ghost use Rattle.gw_control.specs.Controls.{
   act_accepted,
+  act_by,
+  act_unless,
   accepted_by,
   answer_for,
   answer_of,
@@ -20,12 +24,15 @@ ghost use Rattle.gw_control.specs.Controls.{
   controls_unselecting,
   is_full_at,
   is_order,
-  is_selectable,
   no_controls,
   no_controls_after,
   order_at,
   outcome_ended_at,
   outcome_lost_at,
+  refusal_for,
+  refusal_of,
+  refusals_of_execute,
+  refusals_of_select,
   standing_at,
   CanAnswer,
 };
@@ -33,9 +40,10 @@ ghost use Rattle.gw_control.specs.Controls.{
 use crate::accepted::Accepted;
 use crate::answer::{Answer, Outcome};
 use crate::asked::{AskedCommand, is_select};
-use crate::intent::{act_of, control_for};
+use crate::intent::{act_of, control_for, element_refusal};
 use crate::outgoing::Outgoing;
-use crate::selection::{Selection, is_own, is_selected, is_taken};
+use crate::refusal::Refusal;
+use crate::selection::{Selection, is_own, is_selected, is_taken, selection_refusal};
 use gw_map::{Control, Mode, Settings};
 use gw_model::{Act, Ended, Intent, Memory, Order};
 use iec_command::Command;
@@ -191,8 +199,28 @@ impl Controls {
         ensures after { self.new
             ≡ controls_after_command settings.now (asked client session command.now up moment) self.old }
     {
+        let (answer, _) = self.command_telling(client, session, command, settings, up, moment);
+        answer
+    }
+
+    /// The same; it also tells why the command is confirmed negatively, if it is.
+    pub fn command_telling(
+        &mut self,
+        client: u8,
+        session: u64,
+        command: &Command,
+        settings: &Settings,
+        up: bool,
+        moment: u64,
+    ) -> (Answer, Option<Refusal>)
+        requires { CanAnswer settings.now (asked client session command.now up moment) self.old }
+        ensures answer { result.0 ≡ answer_of settings.now (asked client session command.now up moment) self.old }
+        ensures refusal { result.1 ≡ refusal_of settings.now (asked client session command.now up moment) self.old }
+        ensures after { self.new
+            ≡ controls_after_command settings.now (asked client session command.now up moment) self.old }
+    {
         let Some((position, control)) = control_for(command, settings) else {
-            return Answer::Unknown;
+            return (Answer::Unknown, None);
         };
         let asked = AskedCommand {
             client,
@@ -205,35 +233,37 @@ impl Controls {
         self.answer(&asked, position, &control, &standing)
     }
 
-    /// Takes a command for a control, of which this selection stands.
+    /// Takes a command for a control, of which this selection stands; tells why it is confirmed negatively, if it is.
     fn answer(
         &mut self,
         asked: &AskedCommand,
         position: usize,
         control: &Control,
         standing: &Option<Selection>,
-    ) -> Answer
+    ) -> (Answer, Option<Refusal>)
         requires { is_order (answer_for asked.now control.now standing.now self.old) ≡ true
             → self.old.ordered + 1 < 2 ^ 64 }
-        ensures answer { result ≡ answer_for asked.now control.now standing.now self.old }
+        ensures answer { result.0 ≡ answer_for asked.now control.now standing.now self.old }
+        ensures refusal { result.1 ≡ refusal_for asked.now control.now standing.now self.old }
         ensures after { self.new ≡ controls_after_for asked.now position control.now standing.now self.old }
     {
         if asked.command.cause == DEACTIVATION {
             self.unselect(asked, position);
-            return confirmed_if(is_own(asked, standing));
+            return confirmed_unless(deactivation_refusal(asked, standing));
         }
         if is_select(&asked.command.action) {
-            let selectable = is_selectable(asked, control, standing);
-            if selectable {
+            let refusal = select_refusal(asked, control, standing);
+            if refusal.is_none() {
                 self.select(asked, position);
             }
-            return confirmed_if(selectable);
+            return confirmed_unless(refusal);
         }
-        let act = self.act_accepted(asked, control, standing);
+        let refusal = self.execute_refusal(asked, control, standing);
+        let act = act_unless(refusal, asked, control);
         self.unselect(asked, position);
         match act {
-            Some(act) => Answer::Ordered(self.order(asked, control, act)),
-            None => Answer::Negative,
+            Some(act) => (Answer::Ordered(self.order(asked, control, act)), refusal),
+            None => (Answer::Negative, refusal),
         }
     }
 
@@ -261,15 +291,35 @@ impl Controls {
     ) -> Option<Act>
         ensures { result ≡ act_accepted asked.now control.now standing.now self.now }
     {
-        let act = act_of(&asked.command.action, &control.operates)?;
-        if !asked.up
-            || is_taken(asked, standing)
-            || (control.select && !is_selected(asked, standing))
-            || is_full_at(self.outgoing.as_slice(), control.outstation)
-        {
-            return None;
+        let refusal = self.execute_refusal(asked, control, standing);
+        act_unless(refusal, asked, control)
+    }
+
+    /// Why an execute isn't accepted, if it isn't.
+    fn execute_refusal(
+        &self,
+        asked: &AskedCommand,
+        control: &Control,
+        standing: &Option<Selection>,
+    ) -> Option<Refusal>
+        ensures { result ≡ first_of (refusals_of_execute asked.now control.now standing.now self.now) }
+    {
+        if act_by(asked, control).is_none() {
+            return Some(element_refusal(&asked.command.action, &control.operates));
         }
-        Some(act)
+        if !asked.up {
+            return Some(Refusal::OutstationDown);
+        }
+        if is_taken(asked, standing) {
+            return Some(Refusal::SelectedByAnother);
+        }
+        if control.select && !is_selected(asked, standing) {
+            return Some(selection_refusal(asked, standing));
+        }
+        if is_full_at(self.outgoing.as_slice(), control.outstation) {
+            return Some(Refusal::NoPlace);
+        }
+        None
     }
 
     /// The client has a control selected no more.
@@ -393,21 +443,61 @@ fn copied(outgoing: &Outgoing, spare: Option<Outgoing>) -> Result<Outgoing, Memo
     }
 }
 
-fn confirmed_if(told: bool) -> Answer
-    ensures { result ≡ confirmed_if told }
+/// What is answered to a command that is no order, which is refused for this or isn't.
+fn confirmed_unless(refusal: Option<Refusal>) -> (Answer, Option<Refusal>)
+    ensures { result ≡ (confirmed_if (is_none refusal), refusal) }
 {
-    if told {
-        Answer::Confirm
-    } else {
-        Answer::Negative
+    let answer = match refusal {
+        None => Answer::Confirm,
+        Some(_) => Answer::Negative,
+    };
+    (answer, refusal)
+}
+
+/// What a command does to its control.
+fn act_by(asked: &AskedCommand, control: &Control) -> Option<Act>
+    ensures { result ≡ act_by asked.now control.now }
+{
+    act_of(&asked.command.action, &control.operates)
+}
+
+/// The same, where it isn't refused.
+fn act_unless(refusal: Option<Refusal>, asked: &AskedCommand, control: &Control) -> Option<Act>
+    ensures { result ≡ act_unless refusal (act_by asked.now control.now) }
+{
+    match refusal {
+        None => act_by(asked, control),
+        Some(_) => None,
     }
 }
 
-/// Whether a select is confirmed.
-fn is_selectable(asked: &AskedCommand, control: &Control, standing: &Option<Selection>) -> bool
-    ensures { result ≡ is_selectable asked.now control.now standing.now }
+/// Why a deactivation is confirmed negatively, if it is.
+fn deactivation_refusal(asked: &AskedCommand, standing: &Option<Selection>) -> Option<Refusal>
+    ensures { result ≡ when (not (is_own asked.now standing.now)) NotSelected }
 {
-    act_of(&asked.command.action, &control.operates).is_some() && !is_taken(asked, standing)
+    if is_own(asked, standing) {
+        None
+    } else {
+        Some(Refusal::NotSelected)
+    }
+}
+
+/// Why a select is confirmed negatively, if it is.
+fn select_refusal(
+    asked: &AskedCommand,
+    control: &Control,
+    standing: &Option<Selection>,
+) -> Option<Refusal>
+    ensures { result ≡ first_of (refusals_of_select asked.now control.now standing.now) }
+{
+    if act_by(asked, control).is_none() {
+        return Some(element_refusal(&asked.command.action, &control.operates));
+    }
+    if is_taken(asked, standing) {
+        Some(Refusal::SelectedByAnother)
+    } else {
+        None
+    }
 }
 
 /// An execute that is accepted, with its number.

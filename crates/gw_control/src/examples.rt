@@ -5,7 +5,8 @@ ghost use Rattle.gw_model.specs.declared.control.Shape.TheVariants.{Latch, Pulse
 ghost use Rattle.iec_command.specs.declared.command.Action.TheVariants.{Read};
 ghost use Rattle.iec_command.specs.Example.{command, double, setpoint, single};
 ghost use Rattle.gw_control.specs.declared.answer.Answer.TheVariants.{Confirm, Negative, Ordered, Unknown};
-ghost use Rattle.gw_control.specs.Controls.{answer_of, controls_after_command, controls_after_end, controls_after_ended, controls_after_lost, no_controls};
+ghost use Rattle.gw_control.specs.declared.refusal.Refusal.TheVariants.{Qualifier, NoState, OutOfRange, OutstationDown, SelectedByAnother, NotSelected, UnlikeSelect, NoPlace};
+ghost use Rattle.gw_control.specs.Controls.{answer_of, controls_after_command, controls_after_end, controls_after_ended, controls_after_lost, no_controls, refusal_of};
 ghost use Rattle.gw_control.specs.Example.{
   after,
   after_end,
@@ -24,6 +25,7 @@ ghost use Rattle.gw_control.specs.Example.{
   operates,
   order,
   outcome,
+  refused,
   selects,
   selects_value,
   sent,
@@ -133,6 +135,26 @@ pub fn refusals_by_example()
     ensures no_command { answered [] (of_client 0 5 5001 Read 0) ≡ Unknown }
     ensures unknown_changes_nothing { answered (selects 0 true 0 0 ∷ of_client 0 6 5001 (double 1 0 false) 0 ∷ [])
         (executes 0 true 0 0) ≡ Ordered 1 }
+{}
+
+/// Why commands are refused: one of each kind, and the first one where several hold.
+pub fn reasons_by_example()
+    ensures qualifier { refused [] (selects 0 true 4 0) ≡ Some Qualifier }
+    ensures level { refused [] (selects_value 0 (pos 1) 1) ≡ Some Qualifier }
+    ensures no_state { refused [] (operates 3 4 false) ≡ Some NoState }
+    ensures out_of_range { refusal_of (setup_with doubled) (sets 0 (pos 16384)) (no_controls (setup_with doubled))
+        ≡ Some OutOfRange }
+    ensures down { refused (selects_value 1 (pos 1) 0 ∷ []) (while_down (sets 0 (pos 1))) ≡ Some OutstationDown }
+    ensures by_another { refused (selects 0 true 0 0 ∷ []) (executes 1 true 0 0) ≡ Some SelectedByAnother }
+    ensures not_selected { refused [] (executes 0 true 0 0) ≡ Some NotSelected }
+    ensures not_any_more { refused (selects 0 true 0 0 ∷ []) (executes 0 true 0 10000) ≡ Some NotSelected }
+    ensures unlike { refused (selects 0 true 0 0 ∷ []) (executes 0 false 0 0) ≡ Some UnlikeSelect }
+    ensures no_place { refused sixteen (sets 0 (pos 1)) ≡ Some NoPlace }
+    // A deactivation needs a selection of its client; a select may come again.
+    ensures deactivation { refused [] (cancels 0 0) ≡ Some NotSelected }
+    ensures own_deactivation { refused (selects 0 true 0 0 ∷ []) (cancels 0 0) ≡ None }
+    ensures again { refused (selects 0 true 0 0 ∷ []) (selects 0 false 0 0) ≡ None }
+    ensures accepted { refused [] (sets 0 (pos 1)) ≡ None }
 {}
 
 /// What orders ask of the outstation.

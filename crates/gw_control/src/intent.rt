@@ -1,7 +1,9 @@
 //! What a command asks of an outstation, by its control.
 ghost use Rattle.std.specs.Prelude.{◌≡◌};
+ghost use Rattle.gw_control.specs.Controls.{element_refusal};
 ghost use Rattle.gw_control.specs.Intents.{act_of, control_for, is_of_type, scaled_by, shape_of, state_of, switched, value_of};
 
+use crate::refusal::Refusal;
 use gw_map::{Control, Operates, Pulses, Rest, Scale, Settings};
 use gw_model::{Act, Shape};
 use iec_command::{Action, Command};
@@ -46,6 +48,21 @@ pub(crate) fn act_of(action: &Action, operates: &Operates) -> Option<Act>
             Some(Act::Set(value_of(command.value, scale)?))
         }
         _ => None,
+    }
+}
+
+/// Why a command does nothing to a control that operates so.
+pub(crate) fn element_refusal(action: &Action, operates: &Operates) -> Refusal
+    ensures { result ≡ element_refusal action.now operates.now }
+{
+    match (action, operates) {
+        (Action::Double(command), Operates::Double(_)) if state_of(command.state).is_none() => {
+            Refusal::NoState
+        }
+        (Action::Setpoint(command), Operates::Setpoint(_)) if command.qualifier == 0 => {
+            Refusal::OutOfRange
+        }
+        _ => Refusal::Qualifier,
     }
 }
 

@@ -10,6 +10,7 @@ pub mod examples;
 mod intent;
 pub mod laws;
 mod outgoing;
+mod refusal;
 mod selection;
 mod settled;
 
@@ -19,4 +20,5 @@ pub use controls::Controls;
 pub use effect::Orders;
 pub use intent::control_for;
 pub use outgoing::{MOST_WAITING, Outgoing};
+pub use refusal::Refusal;
 pub use settled::{Fate, OrderCounts, Settled};

@@ -1,8 +1,10 @@
 //! Selections of controls.
 ghost use Rattle.std.specs.Prelude.{◌≡◌};
+ghost use Rattle.gw_control.specs.Controls.{selection_refusal};
 ghost use Rattle.gw_control.specs.Selections.{asks_same, is_fresh, is_own, is_selected, is_taken};
 
 use crate::asked::AskedCommand;
+use crate::refusal::Refusal;
 use iec_command::Action;
 
 /// A client's selection of a control.
@@ -72,5 +74,16 @@ pub(crate) fn is_selected(asked: &AskedCommand, standing: &Option<Selection>) ->
             is_own(asked, standing) && asks_same(&selection.action, &asked.command.action)
         }
         None => false,
+    }
+}
+
+/// Why an execute is refused that wants a selection of the control and hasn't its own.
+pub(crate) fn selection_refusal(asked: &AskedCommand, standing: &Option<Selection>) -> Refusal
+    ensures { result ≡ selection_refusal asked.now standing.now }
+{
+    if is_own(asked, standing) {
+        Refusal::UnlikeSelect
+    } else {
+        Refusal::NotSelected
     }
 }

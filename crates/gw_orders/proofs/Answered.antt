@@ -12,7 +12,9 @@ use Rattle.gw_control.specs.declared.answer.Answer.{Answer}
 use Rattle.gw_control.specs.declared.answer.Answer.TheVariants as answers
 use Rattle.gw_control.specs.declared.asked.AskedCommand.{AskedCommand}
 use Rattle.gw_control.specs.declared.selection.Selection.{Selection}
-use Rattle.gw_control.specs.Controls.{NoPlace, NotPermitted, NotSelected, OutstationDown, SelectedByAnother, act_accepted, act_by, act_unless, answer_at, answer_for, answer_to_act, confirmed_if, is_full_at, is_selectable, standing_at}
+use Rattle.gw_control.specs.declared.refusal.Refusal.{Refusal}
+use Rattle.gw_control.specs.declared.refusal.Refusal.TheVariants.{NoPlace, OutstationDown, SelectedByAnother}
+use Rattle.gw_control.specs.Controls.{act_accepted, act_by, act_unless, answer_at, answer_for, answer_to_act, confirmed_if, element_refusal, is_full_at, is_selectable, selection_refusal, standing_at}
 use Rattle.gw_control.specs.Intents.{control_for}
 use Rattle.gw_control.specs.Orders.{Outgoing}
 use Rattle.gw_control.specs.Selections.{is_own, is_select, is_selected, is_taken}
@@ -50,13 +52,13 @@ use Rattle.gw_orders.proofs.Up.{AreUp}
 
 -- ---- an execute
 
--- what is answered to one, by the act on its control and what speaks against it
-abbrev acting : ℕ → Bool → Option Act → Bool → Bool → Bool → Bool → Answer
-acting count select act up taken selected full = answer_to_act count (act_unless (first_of
-    (when (is_none act) NotPermitted
+-- what is answered to one, by the act on its control and what speaks against it, whatever it is refused for
+abbrev acting : Refusal → Refusal → ℕ → Bool → Option Act → Bool → Bool → Bool → Bool → Answer
+acting r s count select act up taken selected full = answer_to_act count (act_unless (first_of
+    (when (is_none act) r
     ∷ when (not up) OutstationDown
     ∷ when taken SelectedByAnother
-    ∷ when (select && not selected) NotSelected
+    ∷ when (select && not selected) s
     ∷ when full NoPlace
     ∷ [])) act)
 
@@ -64,36 +66,36 @@ acting count select act up taken selected full = answer_to_act count (act_unless
 abbrev ordered_if : ℕ → Bool → Answer
 ordered_if count accepted = cond accepted (answers.Ordered (count + 1)) answers.Negative
 
-acted_with : (count : ℕ) (select : Bool) (act : Option Act) (up free selected room : Bool)
-    → acting count select act up (not free) selected (not room)
+acted_with : (r s : Refusal) (count : ℕ) (select : Bool) (act : Option Act) (up free selected room : Bool)
+    → acting r s count select act up (not free) selected (not room)
     ≡ ordered_if count (is_some act && up && free && (not select || selected) && room)
-acted_with count select None up free selected room = refl
-acted_with count select (Some act) false free selected room = refl
-acted_with count select (Some act) true false selected room = refl
-acted_with count true (Some act) true true false room = refl
-acted_with count true (Some act) true true true true = refl
-acted_with count true (Some act) true true true false = refl
-acted_with count false (Some act) true true selected true = refl
-acted_with count false (Some act) true true selected false = refl
+acted_with r s count select None up free selected room = refl
+acted_with r s count select (Some act) false free selected room = refl
+acted_with r s count select (Some act) true false selected room = refl
+acted_with r s count true (Some act) true true false room = refl
+acted_with r s count true (Some act) true true true true = refl
+acted_with r s count true (Some act) true true true false = refl
+acted_with r s count false (Some act) true true selected true = refl
+acted_with r s count false (Some act) true true selected false = refl
 
 -- the place counts only where the outstation is up
-acted : (count : ℕ) (select : Bool) (act : Option Act) (up free selected full room : Bool)
+acted : (r s : Refusal) (count : ℕ) (select : Bool) (act : Option Act) (up free selected full room : Bool)
     → (up ≡ true → full ≡ not room)
-    → acting count select act up (not free) selected full
+    → acting r s count select act up (not free) selected full
     ≡ ordered_if count (is_some act && up && free && (not select || selected) && room)
-acted count select None false free selected full room k = refl
-acted count select (Some act) false free selected full room k = refl
-acted count select act true free selected full room k =
-    ap (acting count select act true (not free) selected) (k refl)
-    ∙ acted_with count select act true free selected room
+acted r s count select None false free selected full room k = refl
+acted r s count select (Some act) false free selected full room k = refl
+acted r s count select act true free selected full room k =
+    ap (acting r s count select act true (not free) selected) (k refl)
+    ∙ acted_with r s count select act true free selected room
 
-acting_same : (count : ℕ) (select : Bool) (act : Option Act) (full up is_so taken so_taken own so_own : Bool)
+acting_same : (r s : Refusal) (count : ℕ) (select : Bool) (act : Option Act) (full up is_so taken so_taken own so_own : Bool)
     → up ≡ is_so → taken ≡ so_taken → own ≡ so_own
-    → acting count select act up taken own full ≡ acting count select act is_so so_taken so_own full
-acting_same count select act full up is_so taken so_taken own so_own e k j =
-    ap (λ (b : Bool). acting count select act b taken own full) e
-    ∙ (ap (λ (b : Bool). acting count select act is_so b own full) k
-    ∙ ap (λ (b : Bool). acting count select act is_so so_taken b full) j)
+    → acting r s count select act up taken own full ≡ acting r s count select act is_so so_taken so_own full
+acting_same r s count select act full up is_so taken so_taken own so_own e k j =
+    ap (λ (b : Bool). acting r s count select act b taken own full) e
+    ∙ (ap (λ (b : Bool). acting r s count select act is_so b own full) k
+    ∙ ap (λ (b : Bool). acting r s count select act is_so so_taken b full) j)
 
 -- ---- places
 
@@ -233,10 +235,12 @@ module _ (setup : Setup) (past : List Entry) (moment c : ℕ) (command : Command
       let free : Bool = is_free_for c so in
       let same : Bool = is_selected_for c command.action so in
       let room : Bool = nat_lt (length (waiting told past o)) 16 in
-      acting_same s.controls.ordered control.select (act_by a control) full a.up (is_outstation_up o past) (is_taken a x)
+      let r : Refusal = element_refusal command.action control.operates in
+      let why : Refusal = selection_refusal a x in
+      acting_same r why s.controls.ordered control.select (act_by a control) full a.up (is_outstation_up o past) (is_taken a x)
       (not free) (is_selected a x) same
       (ap (is_control_up s.outstations) is ∙ k.up o) (taken_so q k) (same_so q k)
-      ∙ (acted s.controls.ordered control.select (act_by a control) (is_outstation_up o past) free same full room (full_so o k)
+      ∙ (acted r why s.controls.ordered control.select (act_by a control) (is_outstation_up o past) free same full room (full_so o k)
       ∙ ap (λ (b : Bool). ordered_if s.controls.ordered
       (b && is_outstation_up o past && free && (not control.select || same) && room))
       (permitted_is control.operates command.action))

@@ -10,7 +10,9 @@ use Rattle.gw_map.specs.Settings.{Setup}
 use Rattle.gw_picture.proofs.Lists.{change-here, change-there}
 use Rattle.gw_control.specs.declared.asked.AskedCommand.{AskedCommand}
 use Rattle.gw_control.specs.declared.selection.Selection.{Selection}
-use Rattle.gw_control.specs.Controls.{Controls, NotPermitted, SelectedByAnother, act_accepted, act_by, controls_after_for, controls_ordering, controls_selecting, controls_unselecting, is_deactivation, is_selectable, standing_at}
+use Rattle.gw_control.specs.declared.refusal.Refusal.{Refusal}
+use Rattle.gw_control.specs.declared.refusal.Refusal.TheVariants.{SelectedByAnother}
+use Rattle.gw_control.specs.Controls.{Controls, act_accepted, act_by, controls_after_for, controls_ordering, controls_selecting, controls_unselecting, element_refusal, is_deactivation, is_selectable, standing_at}
 use Rattle.gw_control.specs.Selections.{asks_same, is_fresh, is_open, is_own, is_select, is_selected, is_session, is_taken, selection_by, standing_in, stands, unselected_by}
 use Rattle.gw_orders.specs.Selections.{Selected, if_fresh, is_free_for, is_selected_by, is_selected_for, may_select, selected_after, unless_by}
 use Rattle.gw_orders.proofs.Words.{permitted_is, same_is}
@@ -250,24 +252,25 @@ module _ (started : ℕ → Bool) (number : ℕ → ℕ) (count : ℕ) (a : Aske
 
 -- ---- a select
 
-selectable_by : (act : Option Act) (free : Bool)
-    → is_none (first_of (when (is_none act) NotPermitted ∷ when (not free) SelectedByAnother ∷ []))
+selectable_by : (r : Refusal) (act : Option Act) (free : Bool)
+    → is_none (first_of (when (is_none act) r ∷ when (not free) SelectedByAnother ∷ []))
     ≡ (is_some act && free)
-selectable_by None free = refl
-selectable_by (Some act) true = refl
-selectable_by (Some act) false = refl
+selectable_by r None free = refl
+selectable_by r (Some act) true = refl
+selectable_by r (Some act) false = refl
 
 pub selectable_is : (setup : Setup) (a : AskedCommand) (control : Control) (q : ℕ) (v : Controls)
     → is_selectable a control (standing_at setup a.moment q v)
     ≡ may_select setup a.client a.moment control a.command (open_at q v)
 selectable_is setup a control q v =
     let free : Bool = is_free_for a.client (if_fresh setup a.moment (open_at q v)) in
+    let r : Refusal = element_refusal a.command.action control.operates in
     ap (λ (t : Bool).
-    is_none (first_of (when (is_none (act_by a control)) NotPermitted ∷ when t SelectedByAnother ∷ [])))
+    is_none (first_of (when (is_none (act_by a control)) r ∷ when t SelectedByAnother ∷ [])))
     (taken_is a (standing_at setup a.moment q v)
     ∙ ap (λ (x : Option Selected). not (is_free_for a.client x))
     (standing_told setup a.moment v.sessions (slice_get v.selections q)))
-    ∙ (selectable_by (act_by a control) free
+    ∙ (selectable_by r (act_by a control) free
     ∙ ap (λ (b : Bool). b && free) (permitted_is control.operates a.command.action))
 
 -- ---- a command

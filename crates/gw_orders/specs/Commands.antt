@@ -2,7 +2,7 @@
 -- has the control selected; a select where its value is permitted and no other client has it selected; an execute is
 -- accepted under five conditions (is_accepted). All else is confirmed negatively. Which orders are pending is told by
 -- the executes that were accepted so (orders).
-use Rattle.std.specs.Prelude.{◌≡◌, ◌↔◌, ℕ, suc, Bool, true, false, not, ◌&&◌, ◌||◌, ◌==◌, nat_lt, List, [], ◌∷◌, ◌++◌, length, slice_get, take, Option, Some, None, Result, Ok, Err, if◌then◌else◌, IsSomeAnd}
+use Rattle.std.specs.Prelude.{◌≡◌, ◌↔◌, ℕ, suc, Bool, true, false, not, ◌&&◌, ◌||◌, nat_lt, List, [], ◌∷◌, ◌++◌, length, slice_get, take, Option, Some, None, Result, Ok, Err, if◌then◌else◌, IsSomeAnd}
 use Rattle.std.specs.List.{filter}
 use Rattle.std.specs.Option.{option_to_list}
 use Rattle.gw_model.specs.First.{when}

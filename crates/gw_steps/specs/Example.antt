@@ -1,6 +1,7 @@
 -- The worked runs: one outstation, one client; binary input 5 is shown as single-point 4101 of station 1, analog
 -- input 0 as scaled value 4201, counter 0 as integrated total 4301.
-use Rattle.std.specs.Prelude.{ℕ, zero, suc, ◌-◌, ◌^◌, pos, true, List, [], ◌∷◌, ◌++◌}
+use Rattle.std.specs.Prelude.{ℕ, zero, suc, ◌-◌, ◌^◌, pos, Bool, true, List, [], ◌∷◌, ◌++◌, map}
+use Rattle.gw_model.specs.declared.control.Order.{Order}
 use Rattle.gw_model.specs.declared.point.Report.{Report}
 use Rattle.gw_model.specs.declared.point.Stamp.TheVariants.{At}
 use Rattle.gw_entries.specs.Example.{station, outstation}
@@ -20,6 +21,9 @@ use Rattle.gw_steps.specs.declared.step.Step.{Step}
 use Rattle.gw_steps.specs.declared.step.Step.TheVariants as steps
 use Rattle.gw_steps.specs.State.{State, at_first}
 use Rattle.gw_steps.specs.Steps.{after}
+use Rattle.gw_steps.specs.Effects.{effects_of}
+use Rattle.gw_steps.specs.declared.effects.Fate.{Fate}
+use Rattle.gw_steps.specs.declared.effects.OrderEnd.{OrderEnd}
 
 abbrev pub setup : Setup
 setup = record { station = station; outstations = outstation ∷ []; rows = rows; controls = [] }
@@ -152,9 +156,31 @@ up = master_after_up 0 down
 abbrev pub control_of : ℕ → Control
 control_of o = record breaker { outstation = o }
 
+-- the order that is under way there, by SELECT and OPERATE or at once
+abbrev pub first_order : Bool → Order
+first_order sbo = order 1 4 (Set (pos 1)) sbo
+
+-- an answer to it by so many octets of objects
+abbrev pub answer : List ℕ → Step
+answer objects = fragment_of (response (0xC0 ∷ 0x81 ∷ 0 ∷ 0 ∷ objects) [])
+
+-- its object with a status
+abbrev pub echo : ℕ → List ℕ
+echo status = 0x29 ∷ 2 ∷ 0x28 ∷ 1 ∷ 0 ∷ 4 ∷ 0 ∷ 1 ∷ 0 ∷ status ∷ []
+
 -- client 0's order is under way, and two of client 1 wait
-abbrev pub three_orders : State
-three_orders = record (at_first with_controls) {
-  outstations = master_after_order 0 (order 1 4 (Set (pos 1)) true) up ∷ [];
+abbrev pub three_orders_by : Bool → State
+three_orders_by sbo = record (at_first with_controls) {
+  outstations = master_after_order 0 (first_order sbo) up ∷ [];
   controls = sent (ordered (sets 0 (pos 1) ∷ sets 1 (pos 2) ∷ sets 1 (pos 3) ∷ []));
 }
+
+abbrev pub three_orders : State
+three_orders = three_orders_by true
+
+-- which of them a step ends, of which client, and what became of them; and which requests it leaves unanswered
+abbrev pub ends : Bool → Step → List (ℕ × (ℕ × Fate))
+ends sbo step = map (λ (e : OrderEnd). (e.order, (e.client, e.fate))) (effects_of with_controls (three_orders_by sbo) step).ended
+
+abbrev pub unanswered : Step → List ℕ
+unanswered step = (effects_of with_controls three_orders step).unanswered

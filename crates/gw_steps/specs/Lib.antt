@@ -1,6 +1,7 @@
 pub mod State
 pub mod Controls
 pub mod Steps
+pub mod Effects
 pub mod Queries
 pub mod Runs
 pub mod Sound

@@ -16,7 +16,9 @@ ghost use Rattle.gw_station.specs.declared.event.Said.TheVariants as saids;
 ghost use Rattle.gw_steps.specs.Controls.{is_control_up, said_of_outcome};
 ghost use Rattle.gw_steps.specs.State.{at_first};
 ghost use Rattle.gw_steps.specs.Steps.{needs, outcome, outcomes_of_loss, parts_after_loss};
-ghost use Rattle.gw_steps.specs.Example.{after_steps, ahead, beginning, connect, control_of, counting, down, event, fragment_of, integrity_answer, interrogate, interrogated, last_count, next_reading, operate, outstation_down, outstation_up, poll, pump, pumps, reached, reading, returned, setup, solicited, start, started, starting, starts, three_orders, timed, two_clients, up};
+ghost use Rattle.dnp_app.specs.declared.operation.Operation.TheVariants.{DirectOperate, Select};
+ghost use Rattle.gw_steps.specs.declared.effects.Fate.TheVariants as fates;
+ghost use Rattle.gw_steps.specs.Example.{after_steps, ahead, answer, beginning, connect, control_of, counting, down, echo, ends, event, fragment_of, integrity_answer, interrogate, interrogated, last_count, next_reading, operate, outstation_down, outstation_up, poll, pump, pumps, reached, reading, returned, setup, solicited, start, started, starting, starts, three_orders, timed, two_clients, unanswered, up};
 
 /// Replies to single steps, with faults before them.
 pub fn replies_by_example()
@@ -189,4 +191,25 @@ pub fn controls_by_example()
     ensures lost { outcomes_of_loss three_orders 0
         ≡ told 0 (pos 1) false ∷ told 1 (pos 2) false ∷ told 1 (pos 3) false ∷ [] }
     ensures none_left { (parts_after_loss with_controls three_orders 0).controls.outgoing ≡ nothing_outgoing ∷ [] }
+{}
+
+/// What becomes of orders: the one of client 0 that is under way, and two of client 1 that wait.
+#[tactic(auto, unfolding(dnp_objects::specs::Headers::headers_from, dnp_objects::specs::Library::object_of))]
+pub fn fates_by_example()
+    ensures done { ends false (answer (echo 0)) ≡ (1, (0, fates.Done)) ∷ [] }
+    ensures refused { ends false (answer (echo 7)) ≡ (1, (0, fates.Refused DirectOperate 7)) ∷ [] }
+    ensures otherwise { ends false (answer []) ≡ (1, (0, fates.Otherwise DirectOperate)) ∷ [] }
+    // SELECT that succeeds ends nothing; one that fails ends the order.
+    ensures selected { ends true (answer (echo 0)) ≡ [] }
+    ensures not_selected { ends true (answer (echo 4)) ≡ (1, (0, fates.Refused Select 4)) ∷ [] }
+    // Answers are awaited for 5 seconds.
+    ensures in_time { ends true (steps.Tick 4999) ≡ [] }
+    ensures late { ends true (steps.Tick 5000) ≡ (1, (0, fates.Unanswered Select)) ∷ [] }
+    ensures unanswered { map unanswered (steps.Tick 4999 ∷ steps.Tick 5000 ∷ []) ≡ [] ∷ (0 ∷ []) ∷ [] }
+    ensures lost { ends true outstation_down
+        ≡ (1, (0, fates.Lost)) ∷ (2, (1, fates.Lost)) ∷ (3, (1, fates.Lost)) ∷ [] }
+    // What is under way goes on where its client leaves; of another outstation nothing ends.
+    ensures let_go { ends true (steps.ClientDown 1 0) ≡ (2, (1, fates.LetGo)) ∷ (3, (1, fates.LetGo)) ∷ [] }
+    ensures goes_on { ends true (steps.ClientDown 0 0) ≡ [] }
+    ensures of_another { ends true (steps.OutstationDown 1 0) ≡ [] }
 {}

@@ -3,11 +3,13 @@
 //! above the hub knows it as a `Machine`.
 #![tactic(auto)]
 
+mod effects;
 mod examples;
 mod machine;
 mod step;
 
 pub use dnp_master::{Ignored, Verdict};
+pub use effects::{Fate, Judged, OrderEnd};
 pub use examples::{interrogations_by_example, replies_by_example, runs_by_example};
 pub use gw_control::{Accepted, Outgoing};
 pub use gw_station::Why;
