@@ -22,6 +22,8 @@ TOP = "gw_program"
 # Seconds of processor for a line of code, contract, definition or proof, until it is known of this machine.
 USUAL = 0.034
 PROVED_LINE = re.compile(r"rt: (\w+) (proved|NOT PROVED|is kept)\b")
+# How the report goes on of a crate that a library of its kept from being proved.
+BY_LIBRARY = "NOT PROVED: its library"
 
 
 def crates_below(top):
@@ -81,6 +83,10 @@ class Course:
             self.failed.append(match[1])
         return match[1]
 
+    def proved(self):
+        """How many crates are proved."""
+        return len(self.told) - len(self.failed)
+
     def under_way(self):
         """The crates that are being proved: their folder of what is made stands."""
         return [it for it in self.crates if it not in self.told and (self.folder / "crates" / it / "out").exists()]
@@ -118,13 +124,19 @@ def follow(process, course, log):
         *lines, text = text.split(b"\n")
         for it in lines:
             log.write(it + b"\n")
-            name = course.hear(it.decode(errors="replace"))
-            if name and not line.moves:
-                tell(f"{name}, {len(course.told)} of {len(course.crates)}, after {spelled(time.monotonic() - begun)};"
+            told = it.decode(errors="replace")
+            name = course.hear(told)
+            if name in course.failed:
+                # What stands on it isn't tried, and isn't told.
+                if BY_LIBRARY not in told:
+                    line.clear()
+                    tell(f"{name} isn't proved, nor what stands on it; see {LOG}")
+            elif name and not line.moves:
+                tell(f"{name}, {course.proved()} of {len(course.crates)}, after {spelled(time.monotonic() - begun)};"
                      f" about {spelled(course.seconds_left())} more")
         course.look()
         if line.moves:
-            line.show(f"{len(course.told)} of {len(course.crates)} crates are proved, after {spelled(time.monotonic() - begun)};"
+            line.show(f"{course.proved()} of {len(course.crates)} crates are proved, after {spelled(time.monotonic() - begun)};"
                       f" about {spelled(course.seconds_left())} more; under way: {' '.join(course.under_way())}")
         if ended:
             line.clear()
@@ -143,8 +155,6 @@ def prove_in(place):
             status = follow(process, course, log)
     built = place / "crates" / TOP / "out" / TOP
     if status or not built.exists():
-        for name in course.failed:
-            tell(f"{name} isn't proved")
         tell(f"the program can't be built; see {LOG}")
         return NO_PROGRAM
     install(built, PROVED, begun)
