@@ -15,7 +15,7 @@ from dataclasses import dataclass, field
 from pathlib import Path
 
 import build_unproved
-from building import PROVED, ROOT, UNPROVED, is_fresh, path_without_hints, run_builder
+from building import NO_PROGRAM, PROVED, ROOT, UNPROVED, is_fresh, path_without_hints, run_builder
 
 LOGS = ROOT / "out/test"
 # The crates of tests; those that take longest come first.
@@ -122,7 +122,11 @@ def main():
     if len(sys.argv) > 1:
         print(__doc__, file=sys.stderr)
         return 2
-    LOGS.mkdir(parents=True, exist_ok=True)
+    try:
+        LOGS.mkdir(parents=True, exist_ok=True)
+    except OSError as why:
+        tell(f"the tests can't write in {ROOT}: {why.strerror}: {why.filename}")
+        return NO_PROGRAM
     tally = Tally()
     status, is_proved = run_all(tally)
     if status:
