@@ -116,17 +116,17 @@ def play(show, program, seconds):
     outstation, station, status = free_places(3)
     settings = write_settings(outstation, station)
     tell("demo", f"settings: {settings}; status page: http://{status}/")
-    show.start("outstation", [sys.executable, "-u", ROOT / "examples/outstation.py", outstation.rpartition(":")[2]])
+    show.start("outstation", [sys.executable, "-Bu", ROOT / "examples/outstation.py", outstation.rpartition(":")[2]])
     if not show.wait_for("outstation", "listens"):
         return
     show.start("gateway", [program, "run", settings, "--status", status])
     if not show.wait_for("gateway", "listening"):
         return
     begun = time.monotonic()
-    show.start("centre", [sys.executable, "-u", ROOT / "examples/centre.py", station])
+    show.start("centre", [sys.executable, "-Bu", ROOT / "examples/centre.py", station])
     if show.ended.wait(ACTS_AFTER if seconds is None else min(ACTS_AFTER, 0.6 * seconds)):
         return
-    show.start("operator", [sys.executable, "-u", ROOT / "examples/centre.py", station, "--operate", *CONTROL])
+    show.start("operator", [sys.executable, "-Bu", ROOT / "examples/centre.py", station, "--operate", *CONTROL])
     if seconds is None:
         tell("demo", "Ctrl-C ends it")
     show.ended.wait(None if seconds is None else max(0, begun + seconds - time.monotonic()))
