@@ -79,7 +79,8 @@ impl Outgoing {
 
     /// The orders that wait, oldest first.
     pub fn waiting(&self) -> &HeapCircularBuffer<Accepted>
-        ensures { result.now.items ≡ self.now.waiting }
+        ensures items { result.now.items ≡ self.now.waiting }
+        ensures few { length self.now.waiting ≤ 16 }
     {
         &self.waiting
     }

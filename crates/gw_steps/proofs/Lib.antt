@@ -1,3 +1,4 @@
 pub mod Inversion
 pub mod Saying
 pub mod Running
+pub mod Ending

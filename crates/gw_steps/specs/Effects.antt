@@ -1,5 +1,5 @@
 -- What a step does besides what it replies.
-use Rattle.std.specs.Prelude.{ℕ, suc, Bool, true, false, List, [], ◌∷◌, ◌++◌, map, slice_get, Option, Some, None, option_map, option_and_then, if◌then◌else◌}
+use Rattle.std.specs.Prelude.{ℕ, suc, Bool, true, false, List, [], ◌∷◌, ◌++◌, map, replicate, slice_get, Result, Ok, Err, Option, Some, None, option_map, option_and_then, if◌then◌else◌}
 use Rattle.std.specs.List.{filter}
 use Rattle.std.specs.Option.{option_to_list}
 use Rattle.gw_model.specs.First.{when}
@@ -29,71 +29,50 @@ use Rattle.gw_steps.specs.declared.effects.OrderEnd.{OrderEnd}
 use Rattle.gw_steps.specs.declared.effects.Judged.{Judged}
 use Rattle.gw_steps.specs.declared.step.Step.{Step}
 use Rattle.gw_steps.specs.declared.step.Step.TheVariants as steps
-use Rattle.gw_steps.specs.State.{State}
+use Rattle.gw_steps.specs.declared.step.Reply.{Reply}
+use Rattle.gw_steps.specs.declared.step.StepFault.{StepFault}
+use Rattle.gw_steps.specs.State.{State, client_limit}
+use Rattle.gw_steps.specs.Queries.{dropped_at}
 use Rattle.gw_steps.specs.Controls.{answer_to, asked_by, ended_lost}
 use Rattle.gw_steps.specs.Steps.{ended_late, is_accepting, latest, order_ended}
 
 pub record Effects : Type 0 where
   -- what was judged of a client's command for a control
   pub command : Option Judged
-  -- the orders that ended, with what became of them: first those that a session's end lets go, then by outstation
+  -- the orders that ended, with what became of each: those that are let go with a session, then by outstation
   pub ended : List OrderEnd
   -- the outstations whose request ended without an answer
   pub unanswered : List ℕ
-  -- for each client, what was dropped for it in the session that ended
+  -- for each client, how many news were dropped in its session, where that ended
   pub dropped : List ℕ
 
--- ---- which sessions end
+-- nothing
+abbrev pub no_effects : Effects
+no_effects = record { command = None; ended = []; unanswered = []; dropped = replicate client_limit 0 }
 
--- an APDU ends its client's session: STOPDT act, or one that closes the connection
-abbrev pub is_stop : Apdu → Bool
-is_stop (U StopAct) = true
-is_stop _ = false
+-- what a step did, with room for what it may do to so many outstations
+pub record Telling : Type 0 where
+  pub told : Effects
+  pub room : ℕ
 
-abbrev pub ends_session : Apdu → Event → Bool
-ends_session apdu events.Taken = is_stop apdu
-ends_session apdu (events.Command command) = false
-ends_session apdu (events.Closed why) = true
-
-abbrev pub ends_session_of : Setup → Apdu → Option Client → Bool
-ends_session_of setup apdu None = false
-ends_session_of setup apdu (Some k) = ends_session apdu (event_of setup apdu k)
-
--- nobody leaves; one client does, or nobody
-abbrev pub nobody : List Client → List Bool
-nobody clients = map (λ _. false) clients
-
-abbrev pub one_leaves : Bool → ℕ → List Client → List Bool
-one_leaves leaves c clients = change c (λ _. leaves) (nobody clients)
-
--- for each client, whether a step ends its session
-abbrev pub leaving : Setup → State → Step → List Bool
-leaving setup s (steps.ClientDown c moment) = one_leaves true c s.clients
-leaving setup s (steps.Frame c apdu moment) =
-    one_leaves (ends_session_of setup apdu (slice_get s.clients c)) c s.clients
-leaving setup s (steps.Tick moment) = map (is_timed_out (latest s moment)) s.clients
-leaving setup s _ = nobody s.clients
-
--- what was dropped for those that leave
-abbrev pub dropped_of : List Bool → List Client → List ℕ
-dropped_of [] ks = []
-dropped_of (leaves ∷ more) [] = []
-dropped_of (leaves ∷ more) (k ∷ ks) = (if leaves then k.dropped else 0) ∷ dropped_of more ks
+-- and these orders ended besides
+abbrev pub with_ends : List OrderEnd → Telling → Telling
+with_ends ends t = record t { told = record t.told { ended = t.told.ended ++ ends } }
 
 -- ---- how orders end
 
 abbrev pub order_end : ℕ → Fate → Accepted → OrderEnd
 order_end o fate x = record { order = x.order.number; outstation = o; client = x.client; fate = fate }
 
--- a client leaves
-abbrev pub leaves_at : Option Bool → Bool
-leaves_at None = false
-leaves_at (Some leaves) = leaves
+-- it is of a client whose session ends, where for each client it is told whether it does
+abbrev pub is_so : Option Bool → Bool
+is_so None = false
+is_so (Some so) = so
 
 abbrev pub is_of_leaving : List Bool → Accepted → Bool
-is_of_leaving leaving x = leaves_at (slice_get leaving x.client)
+is_of_leaving leaving x = is_so (slice_get leaving x.client)
 
--- the orders of those who leave that wait are let go, outstation by outstation
+-- their orders that wait are let go, outstation by outstation
 abbrev pub let_go : List Bool → ℕ → List Outgoing → List OrderEnd
 let_go leaving o [] = []
 let_go leaving o (q ∷ qs) =
@@ -113,10 +92,11 @@ abbrev pub lost_waiting : ℕ → Option Outgoing → List OrderEnd
 lost_waiting o None = []
 lost_waiting o (Some q) = map (order_end o fates.Lost) q.waiting
 
+abbrev pub lost_of : ℕ → Option Ended → Option Outgoing → List OrderEnd
+lost_of o ended q = end_at o (Some fates.Lost) ended q ++ lost_waiting o q
+
 abbrev pub lost : State → ℕ → List OrderEnd
-lost s o =
-    let q = slice_get s.controls.outgoing o in
-    end_at o (Some fates.Lost) (ended_lost (slice_get s.outstations o)) q ++ lost_waiting o q
+lost s o = lost_of o (ended_lost (slice_get s.outstations o)) (slice_get s.controls.outgoing o)
 
 -- it was answered: by how the outstation took what was asked
 abbrev pub fate_taken : Operation → Taken → Fate
@@ -139,23 +119,12 @@ late o (m ∷ ms) (ended ∷ more) [] = []
 late o (m ∷ ms) (ended ∷ more) (q ∷ qs) =
     end_at o (option_map fates.Unanswered (operation_awaited m.exchange)) ended (Some q) ++ late (suc o) ms more qs
 
-abbrev pub ended_by : Setup → State → Step → List OrderEnd
-ended_by setup s (steps.OutstationDown o moment) = lost s o
-ended_by setup s (steps.Fragment f moment) = if is_accepting s f then answered s f else []
-ended_by setup s (steps.Tick moment) =
-    late 0 s.outstations (ended_late s (latest s moment)) s.controls.outgoing
-ended_by setup s _ = []
-
 -- ---- requests
 
 -- the outstations of which this is so, the first one has this number
 abbrev pub where_so : ℕ → List Bool → List ℕ
 where_so o [] = []
 where_so o (so ∷ more) = if so then o ∷ where_so (suc o) more else where_so (suc o) more
-
-abbrev pub unanswered_by : State → Step → List ℕ
-unanswered_by s (steps.Tick moment) = where_so 0 (map (is_unanswered (latest s moment)) s.outstations)
-unanswered_by s _ = []
 
 -- ---- commands
 
@@ -168,26 +137,67 @@ judged setup s moment c (events.Command command) = Some (record {
 })
 judged setup s moment c (events.Closed why) = None
 
-abbrev pub judged_in : Setup → State → ℕ → ℕ → Apdu → Option Client → Option Judged
-judged_in setup s moment c apdu None = None
-judged_in setup s moment c apdu (Some k) = judged setup s moment c (event_of setup apdu k)
+-- ---- which sessions end
 
-abbrev pub judged_by : Setup → State → Step → Option Judged
-judged_by setup s (steps.Frame c apdu moment) =
-    judged_in setup s (latest s moment) c apdu (slice_get s.clients c)
-judged_by setup s _ = None
+-- an APDU ends its client's session: STOPDT act, or one that closes the connection
+abbrev pub is_stop : Apdu → Bool
+is_stop (U StopAct) = true
+is_stop _ = false
 
--- ---- all of it
+abbrev pub ends_session : Apdu → Event → Bool
+ends_session apdu events.Taken = is_stop apdu
+ends_session apdu (events.Command command) = false
+ends_session apdu (events.Closed why) = true
+
+-- for each client, whether it is this one
+abbrev pub only : ℕ → List Bool
+only c = change c (λ _. true) (replicate client_limit false)
+
+-- one client's session ends
+abbrev pub ending_of : State → ℕ → Effects
+ending_of s c = record no_effects {
+  ended = let_go (only c) 0 s.controls.outgoing;
+  dropped = change c (λ _. dropped_at (slice_get s.clients c)) no_effects.dropped;
+}
+
+-- what was dropped for those whose sessions end
+abbrev pub dropped_of : List Bool → List Client → List ℕ
+dropped_of [] ks = []
+dropped_of (ends ∷ more) [] = []
+dropped_of (ends ∷ more) (k ∷ ks) = (if ends then k.dropped else 0) ∷ dropped_of more ks
+
+-- ---- steps
+
+abbrev pub effects_of_event : Setup → State → ℕ → ℕ → Apdu → Event → Effects
+effects_of_event setup s moment c apdu event =
+    if ends_session apdu event then ending_of s c
+    else record no_effects { command = judged setup s moment c event }
+
+abbrev pub effects_of_apdu : Setup → State → ℕ → ℕ → Apdu → Option Client → Effects
+effects_of_apdu setup s moment c apdu None = no_effects
+effects_of_apdu setup s moment c apdu (Some k) = effects_of_event setup s moment c apdu (event_of setup apdu k)
+
+abbrev pub effects_of_tick : State → ℕ → Effects
+effects_of_tick s moment =
+    let closed = map (is_timed_out moment) s.clients in
+    record no_effects {
+      ended = let_go closed 0 s.controls.outgoing ++ late 0 s.outstations (ended_late s moment) s.controls.outgoing;
+      unanswered = where_so 0 (map (is_unanswered moment) s.outstations);
+      dropped = dropped_of closed s.clients;
+    }
 
 -- what a step without a fault does
 abbrev pub effects_of : Setup → State → Step → Effects
-effects_of setup s step = record {
-  command = judged_by setup s step;
-  ended = let_go (leaving setup s step) 0 s.controls.outgoing ++ ended_by setup s step;
-  unanswered = unanswered_by s step;
-  dropped = dropped_of (leaving setup s step) s.clients;
-}
+effects_of setup s (steps.OutstationDown o moment) = record no_effects { ended = lost s o }
+effects_of setup s (steps.Fragment f moment) =
+    if is_accepting s f then record no_effects { ended = answered s f } else no_effects
+effects_of setup s (steps.ClientDown c moment) = ending_of s c
+effects_of setup s (steps.Frame c apdu moment) =
+    effects_of_apdu setup s (latest s moment) c apdu (slice_get s.clients c)
+effects_of setup s (steps.Tick moment) = effects_of_tick s (latest s moment)
+effects_of setup s _ = no_effects
 
--- a step with a fault does nothing
-abbrev pub no_effects : State → Effects
-no_effects s = record { command = None; ended = []; unanswered = []; dropped = dropped_of (nobody s.clients) s.clients }
+-- and one that was answered so: with a fault it does nothing
+abbrev pub effects_with : Setup → State → Step → Result Reply StepFault → Effects
+effects_with setup s step (Ok reply) = effects_of setup s step
+effects_with setup s step (Err fault) = no_effects

@@ -9,7 +9,7 @@ mod machine;
 mod step;
 
 pub use dnp_master::{Ignored, Verdict};
-pub use effects::{Fate, Judged, OrderEnd};
+pub use effects::{Effects, Fate, Judged, OrderEnd, fate_answered, only};
 pub use examples::{interrogations_by_example, replies_by_example, runs_by_example};
 pub use gw_control::{Accepted, Outgoing};
 pub use gw_station::Why;
