@@ -135,9 +135,16 @@ impl Master {
         ensures after { self.new ≡ master_down self.old.poll }
     {
         let poll = self.poll;
-        let ended = self.exchange.failed();
+        let ended = self.ended_by_loss();
         *self = Master::new(&poll);
         ended
+    }
+
+    /// The order that would fail if the outstation were lost.
+    pub fn ended_by_loss(&self) -> Option<Ended>
+        ensures { result ≡ ended_by_loss self.now }
+    {
+        self.exchange.failed()
     }
 
     /// Whether an order can be taken: the outstation is up, no request awaits its answer, and no OPERATE is due.
@@ -351,6 +358,18 @@ impl Master {
                 ..awaited
             });
             self.due = due;
+        }
+    }
+
+    /// The order that fails as time has passed, if one does.
+    pub fn ended_by_tick(&self, moment: u64) -> Option<Ended>
+        ensures { result ≡ ended_by_tick moment self.now }
+    {
+        match self.exchange {
+            Exchange::Waiting(awaited) if awaited.is_late(moment, &self.poll) => {
+                awaited.task.failed()
+            }
+            _ => None,
         }
     }
 

@@ -199,28 +199,8 @@ impl Controls {
         ensures after { self.new
             ≡ controls_after_command settings.now (asked client session command.now up moment) self.old }
     {
-        let (answer, _) = self.command_telling(client, session, command, settings, up, moment);
-        answer
-    }
-
-    /// The same; it also tells why the command is confirmed negatively, if it is.
-    pub fn command_telling(
-        &mut self,
-        client: u8,
-        session: u64,
-        command: &Command,
-        settings: &Settings,
-        up: bool,
-        moment: u64,
-    ) -> (Answer, Option<Refusal>)
-        requires { CanAnswer settings.now (asked client session command.now up moment) self.old }
-        ensures answer { result.0 ≡ answer_of settings.now (asked client session command.now up moment) self.old }
-        ensures refusal { result.1 ≡ refusal_of settings.now (asked client session command.now up moment) self.old }
-        ensures after { self.new
-            ≡ controls_after_command settings.now (asked client session command.now up moment) self.old }
-    {
         let Some((position, control)) = control_for(command, settings) else {
-            return (Answer::Unknown, None);
+            return Answer::Unknown;
         };
         let asked = AskedCommand {
             client,
@@ -233,18 +213,72 @@ impl Controls {
         self.answer(&asked, position, &control, &standing)
     }
 
-    /// Takes a command for a control, of which this selection stands; tells why it is confirmed negatively, if it is.
+    /// What `command` would answer, and why it would confirm the command negatively, if it would. It changes nothing.
+    pub fn judge(
+        &self,
+        client: u8,
+        session: u64,
+        command: &Command,
+        settings: &Settings,
+        up: bool,
+        moment: u64,
+    ) -> (Answer, Option<Refusal>)
+        requires { CanAnswer settings.now (asked client session command.now up moment) self.now }
+        ensures answer { result.0 ≡ answer_of settings.now (asked client session command.now up moment) self.now }
+        ensures refusal { result.1 ≡ refusal_of settings.now (asked client session command.now up moment) self.now }
+    {
+        let Some((position, control)) = control_for(command, settings) else {
+            return (Answer::Unknown, None);
+        };
+        let asked = AskedCommand {
+            client,
+            session,
+            command: *command,
+            up,
+            moment,
+        };
+        let standing = self.standing(position, settings, moment);
+        self.judge_for(&asked, &control, &standing)
+    }
+
+    /// The same of a command for a control, of which this selection stands.
+    fn judge_for(
+        &self,
+        asked: &AskedCommand,
+        control: &Control,
+        standing: &Option<Selection>,
+    ) -> (Answer, Option<Refusal>)
+        requires { is_order (answer_for asked.now control.now standing.now self.now) ≡ true
+            → self.now.ordered + 1 < 2 ^ 64 }
+        ensures answer { result.0 ≡ answer_for asked.now control.now standing.now self.now }
+        ensures refusal { result.1 ≡ refusal_for asked.now control.now standing.now self.now }
+    {
+        if asked.command.cause == DEACTIVATION {
+            let refusal = deactivation_refusal(asked, standing);
+            return (confirmed_unless(refusal), refusal);
+        }
+        if is_select(&asked.command.action) {
+            let refusal = select_refusal(asked, control, standing);
+            return (confirmed_unless(refusal), refusal);
+        }
+        let refusal = self.execute_refusal(asked, control, standing);
+        match act_unless(refusal, asked, control) {
+            Some(_) => (Answer::Ordered(self.ordered + 1), refusal),
+            None => (Answer::Negative, refusal),
+        }
+    }
+
+    /// Takes a command for a control, of which this selection stands.
     fn answer(
         &mut self,
         asked: &AskedCommand,
         position: usize,
         control: &Control,
         standing: &Option<Selection>,
-    ) -> (Answer, Option<Refusal>)
+    ) -> Answer
         requires { is_order (answer_for asked.now control.now standing.now self.old) ≡ true
             → self.old.ordered + 1 < 2 ^ 64 }
-        ensures answer { result.0 ≡ answer_for asked.now control.now standing.now self.old }
-        ensures refusal { result.1 ≡ refusal_for asked.now control.now standing.now self.old }
+        ensures answer { result ≡ answer_for asked.now control.now standing.now self.old }
         ensures after { self.new ≡ controls_after_for asked.now position control.now standing.now self.old }
     {
         if asked.command.cause == DEACTIVATION {
@@ -258,12 +292,11 @@ impl Controls {
             }
             return confirmed_unless(refusal);
         }
-        let refusal = self.execute_refusal(asked, control, standing);
-        let act = act_unless(refusal, asked, control);
+        let act = self.act_accepted(asked, control, standing);
         self.unselect(asked, position);
         match act {
-            Some(act) => (Answer::Ordered(self.order(asked, control, act)), refusal),
-            None => (Answer::Negative, refusal),
+            Some(act) => Answer::Ordered(self.order(asked, control, act)),
+            None => Answer::Negative,
         }
     }
 
@@ -444,14 +477,13 @@ fn copied(outgoing: &Outgoing, spare: Option<Outgoing>) -> Result<Outgoing, Memo
 }
 
 /// What is answered to a command that is no order, which is refused for this or isn't.
-fn confirmed_unless(refusal: Option<Refusal>) -> (Answer, Option<Refusal>)
-    ensures { result ≡ (confirmed_if (is_none refusal), refusal) }
+fn confirmed_unless(refusal: Option<Refusal>) -> Answer
+    ensures { result ≡ confirmed_if (is_none refusal) }
 {
-    let answer = match refusal {
+    match refusal {
         None => Answer::Confirm,
         Some(_) => Answer::Negative,
-    };
-    (answer, refusal)
+    }
 }
 
 /// What a command does to its control.

@@ -1,6 +1,4 @@
-use Rattle.std.proofs.Common.{Option, ap, sym, ◌∙◌}
-use Rattle.gw_control.specs.declared.refusal.Refusal.{Refusal}
-use Rattle.gw_control.specs.Controls.{act_by, act_unless}
+use Rattle.std.proofs.Common.{sym, ◌∙◌}
 use Rattle.gw_control.proofs.Keeps.{accepted}
 use Rattle.gw_control.proofs.controls.Controls.answer.Goals as goal
 
@@ -8,6 +6,4 @@ pub order-requires-clause-place : goal.order-requires-clause-place
 order-requires-clause-place c =
     rw c.unselect-2.ensures
     (accepted c.args.asked.now c.args.control.now c.args.standing.now c.args.self.now c.in-Some.act
-    (sym (c.act_unless-act.ensures
-    ∙ ap (λ (r : Option Refusal). act_unless r (act_by c.args.asked.now c.args.control.now)) c.execute_refusal-refusal.ensures)
-    ∙ c.in-Some.is)).place
+    (sym c.act_accepted-act.ensures ∙ c.in-Some.is)).place
