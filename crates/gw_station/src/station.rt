@@ -8,14 +8,15 @@ ghost use Rattle.iec_window.specs.Sequence.{receive_number, send_number};
 ghost use Rattle.iec_window.specs.Steps.{counts_after_sending_i};
 ghost use Rattle.gw_answers.specs.declared.outgoing.AsduAnswer.TheVariants.{Made};
 ghost use Rattle.gw_station.specs.Answers.{client_judging, client_told, is_asking, is_pending, places, places_taken, CanBeTold};
-ghost use Rattle.gw_station.specs.Client.{client_after_tick, close_by_tick, is_started, is_up, most_confirmations};
-ghost use Rattle.gw_station.specs.Frames.{asks, begins, client_after_apdu, client_with_session, client_with_signal, closes_judged, event_of, floods, given_command, judged_asdu, overfills, HasPlace};
+ghost use Rattle.gw_station.specs.Client.{client_after_tick, close_by_tick, is_started, is_timed_out, is_up, most_confirmations};
+ghost use Rattle.gw_station.specs.Frames.{asks, begins, client_after_apdu, client_with_session, client_with_signal, closes_judged, event_by, event_of, floods, given_command, judged_asdu, overfills, HasPlace};
 ghost use Rattle.gw_station.specs.Kept.{news_next, parts_octets, parts_together};
 ghost use Rattle.gw_station.specs.Pump.{client_after_pump, client_with_sent, client_without_news, client_without_parts, content_of, given, information, information_offered, line, offered, packed_information, IsNext, IsRoomy};
 ghost use Rattle.gw_station.specs.Ring.{alone, dropped_in, older_in, seat_after_close, seat_after_up, seat_down, seen, waiting_in, Ring, Stands};
 ghost use Rattle.gw_station.specs.Sound.{CanAnswer, IsReturnableSending, IsWholeEvent};
 ghost use Rattle.gw_answers.specs.Meaning.{IsSendable};
 ghost use Rattle.iec_asdu.specs.Packing.{taken_of};
+ghost use Rattle.gw_answers.specs.Answers.{command_by};
 ghost use Rattle.gw_answers.specs.Octets.{octets_in, packed_octets, IsReturnable};
 ghost use Rattle.gw_model.specs.First.{first_of};
 ghost use Rattle.gw_model.specs.Clocks.{Clocks};
@@ -243,6 +244,35 @@ impl Station {
         }
     }
 
+    /// What `frame` would give for an APDU, where memory isn't refused. It changes nothing.
+    pub fn event(&self, apdu: &Apdu, settings: &Settings) -> Event
+        ensures { result ≡ event_of settings.now apdu.now (alone self.now) }
+    {
+        match apdu {
+            Apdu::I { ns, nr, asdu } => {
+                let judged = judge(asdu.as_slice(), settings);
+                self.event_of_information(*ns, *nr, &judged)
+            }
+            Apdu::S { nr } if !self.window.is_right_receive(*nr) => Event::Closed(Why::Sequence),
+            Apdu::U(signal) if self.is_flooded_by(*signal) => Event::Closed(Why::Flooded),
+            _ => Event::Taken,
+        }
+    }
+
+    /// What becomes of an I format.
+    fn event_of_information(&self, ns: u16, nr: u16, judged: &Judged) -> Event
+        ensures { result
+            ≡ event_by (first_of (closes_judged ns nr judged.now (alone self.now))) (command_by judged.now) }
+    {
+        if let Some(why) = self.close_by_information(ns, nr, judged) {
+            return Event::Closed(why);
+        }
+        match command_by(judged) {
+            Some(command) => Event::Command(command),
+            None => Event::Taken,
+        }
+    }
+
     /// Takes an APDU that came at a moment, or closes the connection. `picture` is what is shown of each row of
     /// `settings`. Memory is wanted for the answer to an interrogation that is accepted.
     pub fn frame(
@@ -343,13 +373,20 @@ impl Station {
         Some(self.send(sending, settings, moment, news))
     }
 
+    /// Whether `tick` would close the connection at a moment.
+    pub fn is_timed_out(&self, moment: u64) -> bool
+        ensures { result ≡ is_timed_out moment (alone self.now) }
+    {
+        self.is_up() && self.window.t1_passed(moment)
+    }
+
     /// Time has passed: why the connection is closed, if it is.
     pub fn tick(&mut self, moment: u64) -> Option<Why>
         ensures closed { result ≡ close_by_tick moment (alone self.old) }
         ensures client { (r : Ring) → seen r self.new ≡ client_after_tick moment (seen r self.old) }
         ensures stands { (r : Ring) → Stands r self.old → Stands r self.new }
     {
-        if self.is_up() && self.window.t1_passed(moment) {
+        if self.is_timed_out(moment) {
             self.down();
             Some(Why::Timer)
         } else {
