@@ -42,13 +42,7 @@ impl Parts {
         Ok(Parts {
             outstations: Outstations::new(alloc, settings.outstations())?,
             picture: Picture::new(alloc, settings)?,
-            clients: Clients::new(
-                alloc,
-                CLIENTS,
-                &limits_of(station),
-                station.queue,
-                counts.news,
-            )?,
+            clients: Clients::new(alloc, &limits_of(station), station.queue, counts.news)?,
             controls: Controls::after(alloc, settings, counts.orders)?,
         })
     }

@@ -4,3 +4,5 @@ pub mod Walks
 pub mod Sounds
 pub mod Bits
 pub mod Closes
+pub mod Ends
+pub mod Lateness

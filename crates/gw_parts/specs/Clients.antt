@@ -1,11 +1,11 @@
 -- All clients, and what is asked of them.
-use Rattle.std.specs.Prelude.{ℕ, ◌+◌, ◌^◌, ◌<◌, List, Option, Some, None}
+use Rattle.std.specs.Prelude.{ℕ, ◌+◌, ◌^◌, ◌<◌, Bool, false, List, Option, Some, None}
 use Rattle.gw_map.specs.Settings.{Setup, station_clocks}
 use Rattle.iec_apci.specs.declared.apdu.Apdu.{Apdu}
 use Rattle.iec_window.specs.Counts.{sent_in_all}
 use Rattle.gw_station.specs.declared.event.Event.{Event}
 use Rattle.gw_station.specs.declared.event.Event.TheVariants.{Taken}
-use Rattle.gw_station.specs.Client.{Client}
+use Rattle.gw_station.specs.Client.{Client, is_timed_out}
 use Rattle.gw_station.specs.Frames.{event_of}
 use Rattle.gw_station.specs.Pump.{given}
 use Rattle.gw_steps.specs.declared.step.Reply.{Reply}
@@ -20,6 +20,11 @@ pub record Clients : Type 0 where
 abbrev pub event_at : Setup → Apdu → Option Client → Event
 event_at setup apdu None = Taken
 event_at setup apdu (Some k) = event_of setup apdu k
+
+-- its connection is closed as time has passed
+abbrev pub is_timed_out_at : ℕ → Option Client → Bool
+is_timed_out_at moment None = false
+is_timed_out_at moment (Some k) = is_timed_out moment k
 
 -- the reply to a pump at a moment
 abbrev pub reply_to_pump : Setup → ℕ → Option Client → Reply

@@ -1,3 +1,4 @@
 pub mod Clients
 pub mod Lending
 pub mod Outstations
+pub mod Late

@@ -1,5 +1,5 @@
 //! All clients, by their position, and the news for all of them.
-ghost use Rattle.std.specs.Prelude.{◌≡◌, ◌+◌, ◌<◌, ◌≤◌, ◌^◌, ℕ, [], ◌∷◌, map, option_map, replicate, slice_get, true, IfOk, IfSome, OnErr, OnOk};
+ghost use Rattle.std.specs.Prelude.{◌≡◌, ◌+◌, ◌<◌, ◌^◌, ℕ, [], ◌∷◌, map, option_map, replicate, slice_get, true, if◌then◌else◌, IfOk, IfSome, OnErr, OnOk};
 ghost use Rattle.std.specs.List.{AllByRecursion};
 ghost use Rattle.gw_model.specs.Places.{change};
 ghost use Rattle.gw_map.specs.Settings.{Setup, station_clocks};
@@ -12,7 +12,9 @@ ghost use Rattle.gw_station.specs.Sound.{IsSoundClient, IsWholeEvent};
 ghost use Rattle.gw_steps.specs.Controls.{controls_after_closes};
 ghost use Rattle.gw_steps.specs.Steps.{begun_by, bits_of, command_of, wanted_by};
 ghost use Rattle.gw_steps.specs.Queries.{dropped_at, has_offer, queued_at, unacknowledged_at};
-ghost use Rattle.gw_parts.specs.Clients.{event_at, reply_to_pump, CanCount, CanPump};
+ghost use Rattle.gw_steps.specs.State.{client_limit};
+ghost use Rattle.gw_steps.specs.Effects.{dropped_of};
+ghost use Rattle.gw_parts.specs.Clients.{event_at, is_timed_out_at, reply_to_pump, CanCount, CanPump};
 
 use gw_control::Controls;
 use gw_map::Settings;
@@ -25,6 +27,9 @@ use iec_window::Limits;
 use std::alloc::Global;
 use std::marker::Model;
 
+/// How many clients there can be.
+const CLIENTS: u8 = 8;
+
 /// For each client its station, and the last news, for all of them.
 #[derive(Drop)]
 pub struct Clients {
@@ -33,7 +38,7 @@ pub struct Clients {
 }
 
 impl Model for Clients {
-    ghost use Rattle.std.specs.Prelude.{length, map, ◌≤◌};
+    ghost use Rattle.std.specs.Prelude.{length, map, ◌≡◌};
     ghost use Rattle.std.specs.List.{AllByRecursion};
     ghost use Rattle.gw_station.specs.Ring.{seen, Stands};
     ghost use Rattle.gw_parts.specs.Clients.{Clients as Seen};
@@ -43,27 +48,21 @@ impl Model for Clients {
     ghost view = { λ c. record { each = map (seen c.news) c.stations.items; news = c.news.next } };
 
     // A bit of an octet for each.
-    ghost invariant = { λ c. (length c.stations.items ≤ 8) × AllByRecursion (Stands c.news) c.stations.items };
+    ghost invariant = { λ c. (length c.stations.items ≡ 8) × AllByRecursion (Stands c.news) c.stations.items };
 }
 
 impl Clients {
-    /// So many clients, all down, with the parameters of their connections; `queue` news may wait for each. There were
-    /// so many news already.
-    pub fn new(
-        alloc: Global,
-        count: u8,
-        limits: &Limits,
-        queue: u32,
-        news: u64,
-    ) -> Result<Clients, Memory>
-        requires { (count ≤ 8) × (limits.now.k < 32768) }
+    /// All clients down, with the parameters of their connections; `queue` news may wait for each. There were so many
+    /// news already.
+    pub fn new(alloc: Global, limits: &Limits, queue: u32, news: u64) -> Result<Clients, Memory>
+        requires { limits.now.k < 32768 }
         ensures clients { IfOk result (λ clients.
-            clients.each ≡ replicate count (client_down limits.now queue)) }
+            clients.each ≡ replicate client_limit (client_down limits.now queue)) }
         ensures news { IfOk result (λ clients. clients.news ≡ news) }
     {
         let news = NewsRing::new(alloc, queue, news)?;
-        let mut stations = Vec::with_capacity(alloc, usize::from(count))?;
-        for _ in 0..count {
+        let mut stations = Vec::with_capacity(alloc, usize::from(CLIENTS))?;
+        for _ in 0..CLIENTS {
             stations.push(Station::new(alloc, limits)?)?;
         }
         Ok(Clients { news, stations })
@@ -125,6 +124,49 @@ impl Clients {
         }
     }
 
+    /// What was dropped for a client, if its session ends.
+    fn dropped_if(&self, ends: bool, client: u8) -> u64
+        ensures { result ≡ (if ends then dropped_at (slice_get self.now.each client) else 0) }
+    {
+        if ends { self.dropped(client) } else { 0 }
+    }
+
+    /// What was dropped for each client whose session ends.
+    pub fn dropped_of(&self, ends: &[bool; CLIENTS as usize]) -> [u64; CLIENTS as usize]
+        ensures { result ≡ dropped_of ends.now self.now.each }
+    {
+        let _ = &self.stations;
+        let mut dropped = [0; CLIENTS as usize];
+        for client in 0..CLIENTS {
+            let position = usize::from(client);
+            dropped[position] = self.dropped_if(ends[position], client);
+        }
+        dropped
+    }
+
+    /// Whether the connection of a client is closed as time has passed.
+    fn is_timed_out(&self, client: u8, moment: u64) -> bool
+        ensures { result ≡ is_timed_out_at moment (slice_get self.now.each client) }
+    {
+        match self.stations.get(usize::from(client)) {
+            Some(station) => station.is_timed_out(moment),
+            None => false,
+        }
+    }
+
+    /// For each client whether its connection is closed as time has passed: those that `tick` closes.
+    pub fn leaving(&self, moment: u64) -> [bool; CLIENTS as usize]
+        ensures { result ≡ map (is_timed_out moment) self.now.each }
+    {
+        let _ = &self.stations;
+        let mut leaving = [false; CLIENTS as usize];
+        for client in 0..CLIENTS {
+            let position = usize::from(client);
+            leaving[position] = self.is_timed_out(client, moment);
+        }
+        leaving
+    }
+
     /// How many I formats sent to a client are not acknowledged; 0 where there is no such client.
     pub fn unacknowledged(&self, client: u8) -> usize
         ensures { result ≡ unacknowledged_at (slice_get self.now.each client) }
@@ -174,6 +216,16 @@ impl Clients {
         match self.stations.get(usize::from(client)) {
             Some(station) => station.gives(apdu, settings),
             None => None,
+        }
+    }
+
+    /// What becomes of an APDU of a client, where memory isn't refused. It changes nothing.
+    pub fn event(&self, client: u8, apdu: &Apdu, settings: &Settings) -> Event
+        ensures { result ≡ event_at settings.now apdu.now (slice_get self.now.each client) }
+    {
+        match self.stations.get(usize::from(client)) {
+            Some(station) => station.event(apdu, settings),
+            None => Event::Taken,
         }
     }
 

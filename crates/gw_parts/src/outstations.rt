@@ -1,19 +1,23 @@
 //! All outstations, by their position.
-ghost use Rattle.std.specs.Prelude.{◌≡◌, ◌<◌, length, map, option_and_then, option_copied, slice_get, true, IfOk, IfSome, None, Some, ℕ};
+ghost use Rattle.std.specs.Prelude.{◌≡◌, ◌*◌, ◌<◌, ◌≤◌, [], ◌∷◌, length, map, option_and_then, option_copied, option_map, slice_get, true, IfOk, IfSome, None, Some, ℕ};
 ghost use Rattle.std.specs.Borrow.{sem};
 ghost use Rattle.std.specs.Option.{option_copied_mut};
 ghost use Rattle.gw_model.specs.Places.{change};
 ghost use Rattle.dnp_master.specs.Master.{ended_by_tick, is_ready, master_after_next, master_after_order, master_after_tick, master_after_up, master_down};
 ghost use Rattle.dnp_master.specs.Fragments.{master_after_fragment};
 ghost use Rattle.gw_parts.specs.Lending.{LendsMaster};
+ghost use Rattle.dnp_master.specs.Answers.{is_unanswered, operation_awaited};
 ghost use Rattle.gw_steps.specs.Controls.{ended_lost};
+ghost use Rattle.gw_steps.specs.declared.effects.Fate.TheVariants.{Unanswered};
+ghost use Rattle.gw_steps.specs.Effects.{late, where_so};
+ghost use Rattle.gw_parts.specs.Late.{late_at, with_late};
 ghost use Rattle.gw_parts.specs.Outstations.{master_polled, reply_to_poll};
 
 use dnp_app::Response;
 use dnp_master::Master;
 use gw_map::Outstation;
 use gw_model::{Ended, Memory, Order};
-use gw_steps::Reply;
+use gw_steps::{Effects, Fate, Outgoing, Reply};
 use std::alloc::Global;
 use std::marker::Model;
 
@@ -163,5 +167,48 @@ impl Outstations {
         ensures masters { self.new ≡ change position (master_after_tick moment) self.old }
     {
         self.masters[position].tick(moment)
+    }
+
+    /// Tells what becomes of orders as time has passed, and which requests it leaves unanswered: what `tick` will do.
+    pub fn tell_late(&self, moment: u64, outgoing: &[Outgoing], effects: &mut Effects)
+        requires ended { length effects.old.told.ended ≤ 16 * length self.now }
+        requires unanswered { effects.old.told.unanswered ≡ [] }
+        requires room { length self.now ≤ effects.old.room }
+        ensures { effects.new ≡ with_late (late 0 self.now (map (ended_by_tick moment) self.now) outgoing.now)
+            (where_so 0 (map (is_unanswered moment) self.now)) effects.old }
+    {
+        for (position, master) in self.masters.iter().enumerate() {
+            tell_late_at(position, master, moment, outgoing, effects);
+        }
+    }
+}
+
+/// The same of the outstation at a position.
+fn tell_late_at(
+    position: usize,
+    master: &Master,
+    moment: u64,
+    outgoing: &[Outgoing],
+    effects: &mut Effects,
+)
+    requires ended { length effects.old.told.ended < 17 * effects.old.room }
+    requires unanswered { length effects.old.told.unanswered < effects.old.room }
+    ensures { effects.new ≡ with_late (late_at moment position master.now (slice_get outgoing.now position))
+        (where_so position (is_unanswered moment master.now ∷ [])) effects.old }
+{
+    let fate = fate_awaited(master);
+    effects.end_under_way(position, fate, master.ended_by_tick(moment), outgoing);
+    if master.is_unanswered(moment) {
+        effects.leave_unanswered(position);
+    }
+}
+
+/// What becomes of an order whose request is left unanswered.
+fn fate_awaited(master: &Master) -> Option<Fate>
+    ensures { result ≡ option_map Unanswered (operation_awaited master.now.exchange) }
+{
+    match master.operation_awaited() {
+        Some(operation) => Some(Fate::Unanswered(operation)),
+        None => None,
     }
 }
