@@ -40,6 +40,7 @@ use std::marker::Model;
 
 mod machine;
 mod queries;
+mod telling;
 
 /// Outstations and clients, and what goes from one to the other. It makes one step at a time, and
 /// waits for nobody.

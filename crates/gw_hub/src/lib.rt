@@ -12,8 +12,8 @@ mod parts;
 mod tally;
 
 pub use gw_steps::{
-    Accepted, Apdu, ApduBuf, Ignored, Machine, Outgoing, Reply, Signal, Step, StepFault, Verdict,
-    Why,
+    Accepted, Apdu, ApduBuf, Effects, Fate, Ignored, Judged, Machine, OrderEnd, Outgoing, Reply,
+    Signal, Step, StepFault, Verdict, Why,
 };
 pub use hub::Hub;
 pub use tally::Counts;

@@ -197,7 +197,11 @@ effects_of setup s (steps.Frame c apdu moment) =
 effects_of setup s (steps.Tick moment) = effects_of_tick s (latest s moment)
 effects_of setup s _ = no_effects
 
--- and one that was answered so: with a fault it does nothing
+-- this, where it was answered without a fault: with one it does nothing
+abbrev pub told_unless_fault : Result Reply StepFault → Effects → Effects
+told_unless_fault (Ok reply) told = told
+told_unless_fault (Err fault) told = no_effects
+
+-- and one that was answered so
 abbrev pub effects_with : Setup → State → Step → Result Reply StepFault → Effects
-effects_with setup s step (Ok reply) = effects_of setup s step
-effects_with setup s step (Err fault) = no_effects
+effects_with setup s step answer = told_unless_fault answer (effects_of setup s step)

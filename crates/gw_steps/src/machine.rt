@@ -1,10 +1,12 @@
 //! What makes steps.
-ghost use Rattle.std.specs.Prelude.{◌≡◌, ◌↔◌, true, false, IfOk, IsTrue, Some, slice_get};
+ghost use Rattle.std.specs.Prelude.{◌≡◌, ◌≤◌, ◌↔◌, length, true, false, IfOk, IsTrue, Some, slice_get};
 ghost use Rattle.gw_steps.specs.State.{Hub};
 ghost use Rattle.gw_steps.specs.Steps.{client_up, Allowed};
 ghost use Rattle.gw_steps.specs.Sound.{IsSoundState};
+ghost use Rattle.gw_steps.specs.Effects.{effects_with};
 ghost use Rattle.gw_steps.specs.Queries.{dropped_at, has_offer, is_poll_due, queued_at, started_at, unacknowledged_at};
 
+use crate::effects::Effects;
 use crate::step::{Reply, Step, StepFault};
 use gw_control::Outgoing;
 use gw_model::Memory;
@@ -22,6 +24,17 @@ pub trait Machine: Sized + Drop {
         // What every state keeps, before and after.
         ensures was_sound { IsSoundState (seen self.old).setup (seen self.old).state }
         ensures sound { IsSoundState (seen self.new).setup (seen self.new).state };
+
+    /// Makes a step, and tells what it did besides what it replied. A step with a fault did nothing.
+    fn step_telling(&mut self, step: &Step, effects: &mut Effects) -> Result<Reply, StepFault>
+        requires room { length (seen self.old).setup.outstations ≤ effects.old.room }
+        ensures step { Allowed (seen self.old).setup (seen self.old).state step.now result (seen self.new).state }
+        ensures setup { (seen self.new).setup ≡ (seen self.old).setup }
+        ensures was_sound { IsSoundState (seen self.old).setup (seen self.old).state }
+        ensures sound { IsSoundState (seen self.new).setup (seen self.new).state }
+        ensures effects { effects.new.told
+            ≡ effects_with (seen self.old).setup (seen self.old).state step.now result }
+        ensures room { effects.new.room ≡ effects.old.room };
 
     /// An equal one.
     fn copy(&self) -> Result<Self, Memory>

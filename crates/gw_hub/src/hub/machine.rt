@@ -1,10 +1,11 @@
 //! The hub as the machine that others make steps on.
 
 use crate::hub::Hub;
+use crate::hub::telling::clear_after_fault;
 use crate::parts::{clients_over, field_over};
 use gw_control::Outgoing;
 use gw_model::Memory;
-use gw_steps::{Machine, Reply, Step, StepFault};
+use gw_steps::{Effects, Machine, Reply, Step, StepFault};
 
 impl Machine for Hub {
     ghost seen = { λ hub. hub };
@@ -34,6 +35,15 @@ impl Machine for Hub {
             Step::Tick { moment } => self.tick(*moment),
         };
         let _ = &self.clients;
+        reply
+    }
+
+    // What it will do is told from what the hub is before, so that the steps need know nothing of it.
+    fn step_telling(&mut self, step: &Step, effects: &mut Effects) -> Result<Reply, StepFault> {
+        effects.clear();
+        self.tell(step, effects);
+        let reply = self.step(step);
+        clear_after_fault(&reply, effects);
         reply
     }
 
