@@ -68,7 +68,8 @@ KINDS = {
         r"outstation \d+ \S+ order \d+ (failed|let go): .+",
         r"client \d \S+ (lost( again)?: .+|closed( again)?: (?!the gateway ends|gave way).+)",
         r"client \d \S+ \d+ observations? dropped, since too many waited",
-        r"client \d \S+ told: .+, negative",
+        r"client \d \S+ told: .+, negative(: .+)?",
+        r"client \d \S+ asks: type \d+.*: unknown type(, and \d+ more)?",
     ],
     6: [
         r"gateway \S+ started: .+",
@@ -115,7 +116,7 @@ CONTROLS = [
 ]
 # A command for a control without a selection, its words, what it asks for, and the negative answer to it.
 OFF_COMMAND, OFF_WORDS = asdu(46, ACTIVATION, DOUBLE, "01"), "double command 5003 off, QU 0, execute"
-OFF_REFUSED = asdu(46, CONFIRMATION | NEGATIVE, DOUBLE, "01"), "confirmed, negative"
+OFF_REFUSED = asdu(46, CONFIRMATION | NEGATIVE, DOUBLE, "01")
 OFF_GIVEN = spelled(bytes([0xC1, DIRECT_OPERATE]) + latch(6, False))
 # 2023-11-14 22:13:20 in UTC, in both protocols.
 EVENT_TIME, EVENT_TAG = bytes.fromhex("00 68 E5 CF 8B 01"), "20 4E 0D 16 0E 0B 17"
@@ -350,6 +351,10 @@ class Scene:
         for command, what in answers:
             centre.takes(command)
             self.told(f"{centre.name} told: {words}, originator 0, station 1: {what}")
+
+    def refuses(self, centre, *reasons):
+        """A control centre gets the negative answer to OFF_COMMAND, for each of these reasons, which are told."""
+        self.answers(centre, OFF_WORDS, *((OFF_REFUSED, f"confirmed, negative: {reason}") for reason in reasons))
 
     def lost(self, outstation, why):
         """The connection to an outstation is lost; gives when."""

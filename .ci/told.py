@@ -532,22 +532,23 @@ def by(originator, octets):
 
 
 SINGLE, DOUBLE_WORDS, SET = "single command 5001", "double command 5003", "set point 5002"
-CONFIRMED, NOT_CONFIRMED = (CONFIRMATION, "confirmed"), (CONFIRMATION | NEGATIVE, "confirmed, negative")
+CONFIRMED = CONFIRMATION, "confirmed"
+NO_STATE, UNKNOWN_QUALIFIER = ((CONFIRMATION | NEGATIVE, f"confirmed, negative: {it}") for it in ("to no state", "QU 31 is not known"))
 # Commands: their octets, what tells of their cause, their words, and what they are answered.
 COMMANDS = [
     (by(9, asdu(45, ACTIVATION, SWITCH, "81")), "", f"{SINGLE} on, QU 0, select, originator 9, station 1", CONFIRMED),
-    (asdu(45, ACTIVATION, SWITCH, "FC"), "", f"{SINGLE} off, QU 31, select, originator 0, station 1", NOT_CONFIRMED),
+    (asdu(45, ACTIVATION, SWITCH, "FC"), "", f"{SINGLE} off, QU 31, select, originator 0, station 1", UNKNOWN_QUALIFIER),
     (asdu(46, ACTIVATION, DOUBLE, "85"), "", f"{DOUBLE_WORDS} off, QU 1, select, originator 0, station 1", CONFIRMED),
     (asdu(46, ACTIVATION, DOUBLE, "8A"), "", f"{DOUBLE_WORDS} on, QU 2, select, originator 0, station 1", CONFIRMED),
     (asdu(46, ACTIVATION, DOUBLE, "00"), "", f"{DOUBLE_WORDS} to no state, QU 0, execute, originator 0, station 1",
-     NOT_CONFIRMED),
+     NO_STATE),
     (asdu(46, ACTIVATION, DOUBLE, "03"), "", f"{DOUBLE_WORDS} to no state, QU 0, execute, originator 0, station 1",
-     NOT_CONFIRMED),
+     NO_STATE),
     (asdu(49, ACTIVATION, SETPOINT, "FF 7F 80"), "", f"{SET} 32767, QL 0, select, originator 0, station 1", CONFIRMED),
     (by(255, asdu(49, CANCEL, SETPOINT, "00 80 83")), "deactivation of ",
      f"{SET} -32768, QL 3, select, originator 255, station 1", (CANCELLED, "deactivation confirmed")),
     (asdu(49, CANCEL, SETPOINT, "00 00 80"), "deactivation of ", f"{SET} 0, QL 0, select, originator 0, station 1",
-     (CANCELLED | NEGATIVE, "deactivation confirmed, negative")),
+     (CANCELLED | NEGATIVE, "deactivation confirmed, negative: not selected")),
     (under(258, asdu(49, CANCEL, SETPOINT, "FE FF 83")), "deactivation of ",
      f"{SET} -2, QL 3, select, originator 0, station 258", (NEGATIVE | 46, "unknown common address, negative")),
     (asdu(46, ACTIVATION, SETPOINT, "01"), "", "double command 5002 off, QU 0, execute, originator 0, station 1",
@@ -628,7 +629,7 @@ def command_in_vain(centre, times):
         for _ in range(10):
             centre.ask(OFF_COMMAND)
         for _ in range(10):
-            same_octets("an answer to a command", centre.asdu(), OFF_REFUSED[0])
+            same_octets("an answer to a command", centre.asdu(), OFF_REFUSED)
     centre.acknowledge()
 
 

@@ -85,10 +85,12 @@ pub fn look_at_callers<R: Wait, C: Clock>(desk: &Desk<'_, R, C>, wall: u64) {
     }
 }
 
-/// Tells what is due of the clients at their places: that they stand, and how many observations were dropped for them.
+/// Tells what is due of the clients at their places: that they stand, what they sent of unknown types, and how many
+/// observations were dropped for them.
 fn look_at_clients<R: Wait, C: Clock>(desk: &Desk<'_, R, C>, figures: &Figures, wall: u64) {
     for (client, card) in (0u8..).zip(desk.board.clients()) {
         tell_standing(desk, card, client, wall);
+        tell_unknown(desk, card, client, wall);
         tell_dropped(desk, card, client, figures, wall);
     }
 }
@@ -113,6 +115,22 @@ fn tell_standing<R: Wait, C: Clock>(
     desk.tell(JournalEvent::ClientConnected { client, address });
     if figures.started {
         desk.tell(JournalEvent::TransferStarted { client, address });
+    }
+}
+
+/// Tells what a client sent of unknown types, where that is due.
+fn tell_unknown<R: Wait, C: Clock>(
+    desk: &Desk<'_, R, C>,
+    card: &ClientCard,
+    client: u8,
+    wall: u64,
+) {
+    if let Some((address, asdus)) = card.unknown_due(desk.rt, wall) {
+        desk.tell(JournalEvent::UnknownTypes {
+            client,
+            address,
+            asdus,
+        });
     }
 }
 

@@ -1,8 +1,7 @@
 //! What is counted under the lock.
 
-use crate::dropped::Dropped;
-use crate::fates::Fates;
 use crate::roused::{CLIENTS, OUTSTATIONS};
+use crate::tally::Tally;
 use gw_control::OrderCounts;
 use gw_steps::Machine;
 
@@ -24,9 +23,8 @@ pub struct Figures {
 }
 
 impl Figures {
-    /// Those of a machine on which so many calls were made, with what was dropped in data transfers that have ended,
-    /// and with what became of orders.
-    pub fn of<M: Machine>(calls: u64, machine: &M, dropped: &Dropped, fates: &Fates) -> Figures {
+    /// Those of a machine on which so many calls were made, of which this was counted.
+    pub fn of<M: Machine>(calls: u64, machine: &M, tally: &Tally) -> Figures {
         let mut queued = [0; 8];
         let mut unacknowledged = [0; 8];
         for client in 0..CLIENTS {
@@ -38,8 +36,8 @@ impl Figures {
             news: machine.news(),
             queued,
             unacknowledged,
-            dropped: dropped.in_all(machine),
-            orders: fates.counts(),
+            dropped: tally.dropped_in_all(machine),
+            orders: tally.orders(),
         }
     }
 }

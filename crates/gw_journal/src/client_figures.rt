@@ -2,11 +2,12 @@
 
 use crate::cause::Cause;
 use crate::throttle::Throttle;
+use crate::unknown_asdu::{UnknownAsdu, UnknownAsdus};
 use gw_station::Why;
 use gw_status::Closes;
 use std::net::SocketAddr;
 
-/// The milliseconds between two tellings of dropped observations.
+/// The milliseconds between two tellings of dropped observations, and of ASDUs of unknown types.
 const MINUTE_MS: u64 = 60_000;
 
 /// How it is with a place for a client, as the journal and the status tell. The counts go on from one client to the
@@ -26,6 +27,9 @@ pub struct ClientFigures {
     /// How many observations were dropped by the last look.
     dropped: u64,
     dropped_told: Throttle,
+    unknown_told: Throttle,
+    /// The last ASDU of an unknown type that wasn't told.
+    last_unknown: Option<UnknownAsdu>,
 }
 
 /// One more.
@@ -51,6 +55,8 @@ impl ClientFigures {
             is_told: false,
             dropped: 0,
             dropped_told: Throttle::new(MINUTE_MS),
+            unknown_told: Throttle::new(MINUTE_MS),
+            last_unknown: None,
         }
     }
 
@@ -61,6 +67,8 @@ impl ClientFigures {
         self.started = false;
         self.is_told = is_told;
         self.dropped_told = Throttle::new(MINUTE_MS);
+        self.unknown_told = Throttle::new(MINUTE_MS);
+        self.last_unknown = None;
     }
 
     /// Its connection ended; whether it was told of.
@@ -95,6 +103,23 @@ impl ClientFigures {
         } else {
             None
         }
+    }
+
+    /// An ASDU of an unknown type came. Where the client connects from, and how many came before and weren't told, if that is
+    /// told now.
+    pub fn unknown(&mut self, wall: u64, asdu: UnknownAsdu) -> Option<(SocketAddr, UnknownAsdus)> {
+        self.last_unknown = Some(asdu);
+        self.unknown_told.add(1);
+        self.unknown_due(wall)
+    }
+
+    /// Where the client connects from, and the ASDUs of unknown types that are due to be told, which count as told then.
+    pub fn unknown_due(&mut self, wall: u64) -> Option<(SocketAddr, UnknownAsdus)> {
+        let (address, last) = (self.address?, self.last_unknown?);
+        let count = self.unknown_told.pending(wall)?;
+        self.last_unknown = None;
+        let left_out = count.saturating_sub(1);
+        Some((address, UnknownAsdus { last, left_out }))
     }
 
     /// Counts why a connection ended.

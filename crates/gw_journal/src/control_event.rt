@@ -1,7 +1,9 @@
 //! What happens with commands for controls, and with orders.
 
 use crate::event::Priority;
+use crate::reason::{FateWords, Reason};
 use dnp_app::Request;
+use gw_steps::Fate;
 use iec_command::Command;
 use iec_command::causes::UNKNOWN_TYPE;
 use std::fmt;
@@ -11,8 +13,8 @@ use std::fmt;
 pub enum CommandEvent {
     /// It came, and was accepted as the order of this number, if it was.
     Came { order: Option<u64> },
-    /// It goes back to the client.
-    Told,
+    /// It goes back to the client; where it is confirmed negatively, for this reason, if it is known.
+    Told { reason: Option<Reason> },
 }
 
 /// What happens with an order to an outstation.
@@ -20,26 +22,18 @@ pub enum CommandEvent {
 pub enum OrderEvent {
     /// A request of it goes to the outstation.
     Given(Request),
-    /// The outstation did it.
-    Done,
-    /// The outstation answered otherwise.
-    Refused,
-    /// No answer came in time.
-    Unanswered,
-    /// The outstation was lost before its answer came, or before it was given.
-    Lost,
-    /// Its client's session ended before it was given.
-    LetGo,
+    /// It ended so.
+    Ended(Fate),
 }
 
 impl CommandEvent {
     /// How much it matters, of this command.
     pub(crate) fn priority(self, command: &Command) -> Priority {
         match self {
-            CommandEvent::Told if command.negative || command.cause >= UNKNOWN_TYPE => {
+            CommandEvent::Told { .. } if command.negative || command.cause >= UNKNOWN_TYPE => {
                 Priority::Warning
             }
-            CommandEvent::Came { .. } | CommandEvent::Told => Priority::Information,
+            CommandEvent::Came { .. } | CommandEvent::Told { .. } => Priority::Information,
         }
     }
 }
@@ -48,9 +42,8 @@ impl OrderEvent {
     /// How much it matters.
     pub(crate) fn priority(self) -> Priority {
         match self {
-            OrderEvent::Given(_) | OrderEvent::Done => Priority::Information,
-            OrderEvent::Refused | OrderEvent::Unanswered | OrderEvent::Lost | OrderEvent::LetGo =>
-                Priority::Warning,
+            OrderEvent::Given(_) | OrderEvent::Ended(Fate::Done) => Priority::Information,
+            OrderEvent::Ended(_) => Priority::Warning,
         }
     }
 }
@@ -72,16 +65,21 @@ impl<'a> fmt::Display for Spaced<'a> {
 
 impl fmt::Display for OrderEvent {
     fn fmt<W: fmt::Write>(&self, f: &mut fmt::Formatter<W>) -> fmt::Result {
-        let words = match self {
-            OrderEvent::Given(request) => {
-                return write!(f, "given: {}", Spaced(request.as_slice()));
-            }
-            OrderEvent::Done => "done",
-            OrderEvent::Refused => "failed: the outstation answered otherwise",
-            OrderEvent::Unanswered => "failed: no answer in time",
-            OrderEvent::Lost => "failed: the outstation was lost",
-            OrderEvent::LetGo => "let go: its session ended before it was given",
-        };
-        f.write_str(words)
+        match self {
+            OrderEvent::Given(request) => write!(f, "given: {}", Spaced(request.as_slice())),
+            OrderEvent::Ended(fate) => write_end(f, *fate),
+        }
+    }
+}
+
+/// Writes how an order ended.
+fn write_end<W: fmt::Write>(f: &mut fmt::Formatter<W>, fate: Fate) -> fmt::Result {
+    let words = FateWords(fate);
+    match fate {
+        Fate::Done => write!(f, "{words}"),
+        Fate::LetGo => write!(f, "let go: {words}"),
+        Fate::Refused(..) | Fate::Otherwise(_) | Fate::Unanswered(_) | Fate::Lost => {
+            write!(f, "failed: {words}")
+        }
     }
 }

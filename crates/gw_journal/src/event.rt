@@ -5,6 +5,7 @@ use crate::doubt::Doubt;
 use crate::failure::Failure;
 use crate::loss::Loss;
 use crate::stray::StrayFrames;
+use crate::unknown_asdu::UnknownAsdus;
 use crate::unreadable::Unreadable;
 use gw_text::RecordEnd;
 use iec_command::Command;
@@ -169,6 +170,15 @@ pub enum JournalEvent {
         /// How many, since they were told last.
         count: u64,
     },
+    /// It sent ASDUs of types that aren't known in control direction.
+    UnknownTypes {
+        /// Its place.
+        client: u8,
+        /// Where it connects from.
+        address: SocketAddr,
+        /// The last one, and how many more.
+        asdus: UnknownAsdus,
+    },
     /// Something happened with a command of it for a control.
     Command {
         /// Its place.
@@ -255,6 +265,7 @@ impl JournalEvent {
             | JournalEvent::ObjectsPassedOver { .. }
             | JournalEvent::ClientLost { .. }
             | JournalEvent::NewsDropped { .. }
+            | JournalEvent::UnknownTypes { .. }
             | JournalEvent::AllPlacesTaken { .. }
             | JournalEvent::NotAllowed { .. }
             | JournalEvent::RecordingEnded(_)
@@ -288,6 +299,11 @@ impl JournalEvent {
                 ..
             }
             | JournalEvent::NewsDropped {
+                client,
+                address,
+                ..
+            }
+            | JournalEvent::UnknownTypes {
                 client,
                 address,
                 ..

@@ -7,6 +7,7 @@ use crate::doubt::Doubt;
 use crate::event::{JournalEvent, Priority, Subject};
 use crate::failure::Failure;
 use crate::instant::Instant;
+use crate::reason::{Reason, ReasonWords};
 use crate::unreadable::Unreadable;
 use gw_text::Plain;
 use iec_command::Command;
@@ -238,6 +239,7 @@ impl<'a> fmt::Display for ClientWords<'a> {
             JournalEvent::NewsDropped { count, .. } => {
                 write_counted(f, *count, "observation", "dropped, since too many waited")
             }
+            JournalEvent::UnknownTypes { asdus, .. } => fmt::Display::fmt(asdus, f),
             JournalEvent::Command { command, what, .. } => write_command(f, command, *what),
             _ => Ok(()),
         }
@@ -370,6 +372,19 @@ fn write_command<W: fmt::Write>(
     match what {
         CommandEvent::Came { order: Some(order) } => write_accepted(f, command, order),
         CommandEvent::Came { order: None } => write_said(f, "asks:", &AskedWords(command)),
-        CommandEvent::Told => write_said(f, "told:", &ToldWords(command)),
+        CommandEvent::Told { reason: None } => write_said(f, "told:", &ToldWords(command)),
+        CommandEvent::Told {
+            reason: Some(reason),
+        } => write_refused(f, command, reason),
     }
+}
+
+/// Writes that a command was confirmed negatively, and why.
+fn write_refused<W: fmt::Write>(
+    f: &mut fmt::Formatter<W>,
+    command: &Command,
+    reason: Reason,
+) -> fmt::Result {
+    let (words, reason) = (ToldWords(command), ReasonWords(reason, command));
+    write!(f, "told: {words}: {reason}")
 }

@@ -36,7 +36,7 @@ pub struct OutstationFigures {
     pub last_answer: Option<u64>,
     /// The requests sent to it.
     pub requests: u64,
-    /// Those after which the next was sent before their answer had ended. It never goes down.
+    /// Those whose answer didn't come, or didn't end, in time.
     pub unanswered: u64,
     /// The fragments of it that were refused.
     pub refused: u64,
@@ -48,14 +48,10 @@ pub struct OutstationFigures {
     pub events: u64,
     /// The internal indications of its last response on this connection.
     before: u16,
-    /// The last request awaits its answer.
-    is_awaited: bool,
-    /// The number of the step that gave it.
+    /// The number of the step that gave the last request.
     asked_by: u64,
     /// Whether it writes the time.
     writes_time: bool,
-    /// Whether the request before it may turn out to be unanswered.
-    doubt: Doubt,
     /// How far the setting of the clock has come, and how far it had before the last request.
     setting: Setting,
     earlier_setting: Setting,
@@ -74,18 +70,6 @@ pub struct OutstationFigures {
     is_told: bool,
     /// What was noticed on connections that weren't told of.
     noticed: Noticed,
-}
-
-/// Whether the request before the last one is unanswered. A fragment is told behind the core's lock, so the end of an
-/// answer may be told behind the request that followed it.
-#[derive(Clone, Copy)]
-enum Doubt {
-    /// It was answered, or counts as unanswered.
-    Settled,
-    /// No answer of it has ended, as far as was told.
-    New,
-    /// The same, and it was looked at what is due since.
-    Looked,
 }
 
 /// How far the setting of the outstation's clock has come.
@@ -177,10 +161,8 @@ impl OutstationFigures {
             indications: 0,
             events: 0,
             before: 0,
-            is_awaited: false,
             asked_by: 0,
             writes_time: false,
-            doubt: Doubt::Settled,
             setting: Setting::Idle,
             earlier_setting: Setting::Idle,
             unanswered_told: Throttle::new(MINUTE_MS),
@@ -216,24 +198,17 @@ impl OutstationFigures {
         self.reconnects.unreached(wall, cause)
     }
 
-    /// No connection stands. A request that awaited its answer counts as none that wasn't answered in time.
+    /// No connection stands.
     fn end(&mut self) {
-        self.settle();
         self.connected_since = None;
         self.before = 0;
-        self.is_awaited = false;
         self.setting = Setting::Idle;
         self.earlier_setting = Setting::Idle;
     }
 
     /// A request is sent, which the step of this number gave, and whether it writes the time.
     pub fn asked(&mut self, step: u64, writes_time: bool) {
-        self.settle();
         self.requests = self.requests.saturating_add(1);
-        if self.is_awaited {
-            self.doubt = Doubt::New;
-        }
-        self.is_awaited = true;
         self.asked_by = step;
         self.writes_time = writes_time;
         self.earlier_setting = self.setting;
@@ -273,13 +248,10 @@ impl OutstationFigures {
         Noticed::NOTHING
     }
 
-    /// The request before the last one counts as unanswered, where that was in doubt.
-    fn settle(&mut self) {
-        if let Doubt::New | Doubt::Looked = self.doubt {
-            self.doubt = Doubt::Settled;
-            self.unanswered = self.unanswered.saturating_add(1);
-            self.unanswered_told.add(1);
-        }
+    /// The last request ended without its answer.
+    pub fn unanswered(&mut self) {
+        self.unanswered = self.unanswered.saturating_add(1);
+        self.unanswered_told.add(1);
     }
 
     /// What a fragment means for the request that it may answer; whether it is to be told that the clock isn't set.
@@ -288,19 +260,14 @@ impl OutstationFigures {
         if step < self.asked_by {
             return self.ends_earlier(indications, solicited_end);
         }
-        self.settle();
         let (setting, clock_not_set) = self.setting.once_answered(indications, solicited_end);
         self.setting = setting;
-        self.is_awaited = self.is_awaited && !solicited_end;
         clock_not_set
     }
 
     /// What a fragment means that may answer the request before the last one, as if it had been told before the last
     /// one was.
     fn ends_earlier(&mut self, indications: u16, solicited_end: bool) -> bool {
-        if solicited_end {
-            self.doubt = Doubt::Settled;
-        }
         let (earlier, clock_not_set) = self
             .earlier_setting
             .once_answered(indications, solicited_end);
@@ -339,11 +306,6 @@ impl OutstationFigures {
 
     /// What is due to be told, which counts as told then.
     pub fn due(&mut self, wall: u64) -> DueNotes {
-        match self.doubt {
-            Doubt::Settled => {}
-            Doubt::New => self.doubt = Doubt::Looked,
-            Doubt::Looked => self.settle(),
-        }
         let lost = self.reconnects.due(wall);
         let connected = self.stands(wall);
         DueNotes {

@@ -3,7 +3,9 @@
 use crate::callers::Callers;
 use crate::hold::Hold;
 use crate::plan::Plan;
-use gw_journal::{ClientFigures, DueNotes, OutstationFigures, StrayFrame, Way};
+use crate::reasons::Reasons;
+use crate::sequence::Sequence;
+use gw_journal::{ClientFigures, DueNotes, OutstationFigures, StrayFrame, UnknownAsdus, Way};
 use gw_map::Settings;
 use gw_model::Memory;
 use std::alloc::Global;
@@ -48,12 +50,15 @@ impl OutstationCard {
 #[derive(Drop)]
 pub struct ClientCard {
     pub figures: Mutex<ClientFigures>,
+    /// Why commands of it were refused, and orders of it ended, of which it wasn't told.
+    pub reasons: Mutex<Reasons>,
     hold: Mutex<Hold>,
 }
 
 impl ClientCard {
     /// A client is given the place.
     pub fn seat<R: Wait>(&self, rt: &R, hold: Hold) {
+        self.reasons.lock(rt).clear();
         *self.hold.lock(rt) = hold;
     }
 
@@ -118,6 +123,11 @@ impl ClientCard {
         Some((address, count))
     }
 
+    /// The ASDUs of unknown types that are due to be told, and where the client connects from.
+    pub fn unknown_due<R: Wait>(&self, rt: &R, wall: u64) -> Option<(SocketAddr, UnknownAsdus)> {
+        self.figures.lock(rt).unknown_due(wall)
+    }
+
     /// The client has started data transfer; where it connects from, if that is to be told.
     pub fn starts<R: Wait>(&self, rt: &R) -> Option<SocketAddr> {
         self.hold.lock(rt).start();
@@ -132,6 +142,7 @@ impl ClientCard {
 
     /// The client transfers data from now on, or doesn't any more; where it connects from, if that is to be told.
     fn transfers<R: Wait>(&self, rt: &R, starts: bool) -> Option<SocketAddr> {
+        self.reasons.lock(rt).clear();
         self.figures.lock(rt).transfers(starts)
     }
 }
@@ -143,6 +154,8 @@ pub struct Board {
     clients: Vec<ClientCard>,
     /// What is told of the clients of each address.
     pub callers: Mutex<Callers>,
+    /// Of which steps it was told.
+    pub sequence: Sequence,
     /// For how many milliseconds nothing comes from a client before it is tested (t3).
     silence_ms: u64,
 }
@@ -165,6 +178,7 @@ impl Board {
             outstations: cards,
             clients: client_cards(alloc, clients)?,
             callers: Mutex::new(callers),
+            sequence: Sequence::new(alloc, plans.len(), usize::from(clients))?,
             silence_ms: t3_ms,
         })
     }
@@ -234,6 +248,7 @@ fn client_cards(alloc: Global, count: u8) -> Result<Vec<ClientCard>, Memory> {
     for _ in 0..count {
         cards.push(ClientCard {
             figures: Mutex::new(ClientFigures::new()),
+            reasons: Mutex::new(Reasons::new()),
             hold: Mutex::new(Hold::nobody()),
         })?;
     }

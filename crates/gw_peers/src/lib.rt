@@ -13,7 +13,9 @@ mod input;
 mod lobby;
 mod network;
 mod plan;
+mod reasons;
 mod refusals;
+mod sequence;
 mod tcp;
 mod waiting_visits;
 
@@ -26,4 +28,6 @@ pub use input::await_end;
 pub use lobby::{Lobby, Visit};
 pub use network::Network;
 pub use plan::{Plan, plans_of};
+pub use reasons::Reasons;
+pub use sequence::{Sequence, Source};
 pub use tcp::{look_up_from_accept, shut};

@@ -9,8 +9,9 @@ mod tape;
 
 pub use entry::Entry;
 pub use gw_effects::{
-    Apdu, ApduBuf, Awake, CLIENTS, Dropped, Fate, Fates, Figures, Load, Machine, OUTSTATIONS,
-    OrderCounts, Orders, Pace, Reply, Roused, Settled, Step, StepFault, Topic, Verdict, Watch, Why,
+    Answer, Apdu, ApduBuf, Awake, CLIENTS, Effects, Fate, Figures, Judged, Load, Machine,
+    OUTSTATIONS, OrderCounts, OrderEnd, Pace, Refusal, Reply, Roused, Step, StepFault, Tally,
+    Topic, Verdict, Why, order_accepted,
 };
 pub use kept::{Kept, KeptStep};
 pub use recorder::{Dump, NoRoom, Recorder};

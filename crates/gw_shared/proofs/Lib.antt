@@ -4,3 +4,4 @@ pub mod Turns
 pub mod Pumping
 pub mod Making
 pub mod Reaching
+pub mod Telling

@@ -1,5 +1,5 @@
 -- The pumps for client 3 are left to actor 7.
-use Rattle.std.specs.Prelude.{ℕ, Bool, ◌==◌, Option, Some, None, if◌then◌else◌}
+use Rattle.std.specs.Prelude.{ℕ, ◌==◌, Some, None, if◌then◌else◌}
 use Rattle.gw_shared.specs.Roles.{Roles}
 
 abbrev pub left : Roles

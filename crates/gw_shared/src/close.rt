@@ -70,7 +70,7 @@ fn share_of<L: Course>(pass: Pass<L>) -> Share<L>
     let Pass {
         share,
         actor: _,
-        orders: _,
+        effects: _,
         front: _,
     } = pass;
     share

@@ -17,8 +17,8 @@ pub use close::{CloseFault, Closed};
 pub use course::{Course, Made, open_course};
 pub use gw_bell::Bell;
 pub use gw_record::{
-    Apdu, ApduBuf, Entry, Fate, Figures, Kept, KeptStep, Load, Machine, OrderCounts, Orders,
-    Recorder, Reply, Settled, Step, StepFault, Verdict, Why,
+    Answer, Apdu, ApduBuf, Effects, Entry, Fate, Figures, Judged, Kept, KeptStep, Load, Machine,
+    OrderCounts, OrderEnd, Recorder, Refusal, Reply, Step, StepFault, Verdict, Why, order_accepted,
 };
 pub use locked::Core;
 pub use one_log::Opened;

@@ -17,8 +17,8 @@ use crate::pumped::Pumped;
 use gw_ends::{Batch, LONGEST_APDU, apdu_in};
 use gw_model::Memory;
 use gw_record::{
-    Awake, Dropped, Fates, Figures, Load, Machine, Pace, Recorder, Reply, Roused, Step, StepFault,
-    Topic, Watch,
+    Awake, Figures, Load, Machine, Pace, Recorder, Reply, Roused, Step, StepFault, Tally, Topic,
+    order_accepted,
 };
 use one_log::Head;
 use std::alloc::Global;
@@ -28,8 +28,8 @@ use std::sync::ledger::{Book, Share};
 /// How many pumps are made at most before others may take the lock.
 const MOST_PUMPS: u32 = 64;
 
-/// A machine with its recorder, the count of calls, and the book of all passes' counts; what was dropped for clients,
-/// which writers are awake, how peers keep up, and what became of orders, which no contract sees.
+/// A machine with its recorder, the count of calls, and the book of all passes' counts; what is counted of its steps, which
+/// writers are awake, and how peers keep up, which no contract sees.
 #[derive(Drop)]
 pub struct Core<L: Course, M: Machine> {
     machine: M,
@@ -37,10 +37,9 @@ pub struct Core<L: Course, M: Machine> {
     made: u64,
     book: Book<L>,
     head: Head<Made, L>,
-    dropped: Dropped,
+    tally: Tally,
     awake: Awake,
     pace: Pace,
-    fates: Fates,
 }
 
 impl<L: Course, M: Machine> Model for Core<L, M> {
@@ -61,23 +60,6 @@ impl<L: Course, M: Machine> Model for Core<L, M> {
         × IsReached L.setup (M.seen c.machine) c.head.log c.made × KeepsRoles L.roles c.head.log };
 }
 
-/// The recorder of a machine on which no call was made, and what becomes of orders.
-fn records_of<M: Machine>(
-    alloc: Global,
-    machine: &M,
-    actors: usize,
-    capacity: usize,
-) -> Result<(Recorder<M>, Fates), Memory>
-    requires { 0 < capacity }
-    ensures counts { IfOk result (λ records. records.0.counts ≡ replicate actors 0) }
-    ensures tape { IfOk result (λ records. records.0.tape
-        ≡ Some (tape_on (M.seen machine.now) (replicate actors 0) capacity)) }
-{
-    let fates = Fates::new(alloc)?;
-    let recorder = Recorder::new(alloc, machine, actors, capacity)?;
-    Ok((recorder, fates))
-}
-
 impl<L: Course, M: Machine> Core<L, M> {
     /// A core on which no call was made.
     pub fn new(
@@ -96,17 +78,16 @@ impl<L: Course, M: Machine> Core<L, M> {
         ensures hub { IfOk result (λ core. core.hub ≡ M.seen machine) }
         ensures made { IfOk result (λ core. core.made ≡ 0) }
     {
-        let (recorder, fates) = records_of(alloc, &machine, actors, capacity)?;
+        let recorder = Recorder::new(alloc, &machine, actors, capacity)?;
         Ok(Core {
             machine,
             recorder,
             made: 0,
             book,
             head,
-            dropped: Dropped::new(),
+            tally: Tally::new(),
             awake: Awake::nobody(),
             pace: Pace::new(),
-            fates,
         })
     }
 
@@ -123,9 +104,8 @@ impl<L: Course, M: Machine> Core<L, M> {
             return (u64::MAX, Err(StepFault::Spent));
         }
         self.make_ready();
-        let before = self.watch(&step);
         let answer = self.make(pass, step);
-        self.note_dropped(before);
+        self.count(pass);
         answer
     }
 
@@ -139,16 +119,11 @@ impl<L: Course, M: Machine> Core<L, M> {
         self.head.show(&mut pass.front);
     }
 
-    /// What is to be watched before a step is made.
-    fn watch(&self, step: &Step) -> Watch {
-        Watch::of(Topic::of(step), &self.machine)
-    }
-
-    /// What was watched is compared with what the step left.
-    fn note_dropped(&mut self, before: Watch)
+    /// Counts what the newest call of a pass did.
+    fn count(&mut self, pass: &Pass<L>)
         ensures { self.new ≡ self.old }
     {
-        self.dropped.note(before, &self.machine);
+        self.tally.note(pass.effects(), &self.machine);
     }
 
     /// The same call, of which the lock's taker knows what all calls keep; and whom it serves.
@@ -162,35 +137,25 @@ impl<L: Course, M: Machine> Core<L, M> {
         ensures answers { Answers L.setup pass.old pass.new step result.0 }
     {
         let topic = Topic::of(&step);
-        self.foresee(topic, &step);
+        self.foresee(&step);
         let answer = self.step(pass, step);
         let roused = self.rouse(pass, topic, &answer.1);
         (answer, roused)
     }
 
-    /// What may become of orders by a step is looked at before, and what it may tell of how peers keep up.
-    fn foresee(&mut self, topic: Topic, step: &Step)
+    /// What a step may tell of how peers keep up is looked at before.
+    fn foresee(&mut self, step: &Step)
         ensures { self.new ≡ self.old }
     {
-        self.fates.foresee(topic, &self.machine);
         self.pace.foresee(step, &self.machine);
     }
 
-    /// Those of the workers whom a call serves for whom the bell has to ring. What the call did to orders is kept with
-    /// its pass.
-    fn rouse(
-        &mut self,
-        pass: &mut Pass<L>,
-        topic: Topic,
-        reply: &Result<Reply, StepFault>,
-    ) -> Roused
-        ensures core { self.new ≡ self.old }
-        ensures pass { pass.new ≡ pass.old }
+    /// Those of the workers whom the newest call of a pass serves for whom the bell has to ring.
+    fn rouse(&mut self, pass: &Pass<L>, topic: Topic, reply: &Result<Reply, StepFault>) -> Roused
+        ensures { self.new ≡ self.old }
     {
-        let orders = &mut pass.orders;
-        self.fates.note(topic, reply, &self.machine, orders);
         self.pace.settle(reply, &self.machine);
-        let ordered = orders.accepted().is_some();
+        let ordered = order_accepted(pass.effects()).is_some();
         self.awake.told(topic, reply);
         self.awake
             .rouse(Roused::by(topic, reply, ordered, &self.machine))
@@ -278,7 +243,7 @@ impl<L: Course, M: Machine> Core<L, M> {
         step.attest();
         self.book.audit(&mut pass.share);
         self.book.add(&mut pass.share, 1);
-        let reply = self.machine.step(&step);
+        let reply = self.machine.step_telling(&step, &mut pass.effects);
         let made = self.head.add(Made { step, reply }, &mut pass.front);
         let Made { step, reply: _ } = made;
         self.recorder.note(pass.actor, step, reply);
@@ -317,7 +282,7 @@ impl<L: Course, M: Machine> Core<L, M> {
 
     /// What is counted.
     pub fn figures(&self) -> Figures {
-        Figures::of(self.made, &self.machine, &self.dropped, &self.fates)
+        Figures::of(self.made, &self.machine, &self.tally)
     }
 
     /// How many calls were made, for whoever has all passes' shares.
@@ -341,10 +306,9 @@ impl<L: Course, M: Machine> Core<L, M> {
             made: _,
             book: _,
             head: _,
-            dropped: _,
+            tally: _,
             awake: _,
             pace: _,
-            fates: _,
         } = self;
         (machine, recorder)
     }

@@ -1,5 +1,5 @@
 //! The core behind its lock.
-ghost use Rattle.std.specs.Prelude.{◌≡◌, ◌<◌, [], IfOk, map};
+ghost use Rattle.std.specs.Prelude.{◌≡◌, ◌<◌, ◌≤◌, [], length, IfOk, map};
 ghost use Rattle.std.specs.List.{range_with_len};
 ghost use Rattle.gw_shared.specs.Reached.{CourseOf, IsCourse, IsFirst};
 ghost use Rattle.gw_shared.specs.Turn.{unused};
@@ -13,7 +13,7 @@ use crate::pumped::Pumped;
 use gw_bell::Bell;
 use gw_ends::Batch;
 use gw_model::Memory;
-use gw_record::{Figures, Load, Machine, Orders, Recorder, Reply, Roused, Step, StepFault};
+use gw_record::{Effects, Figures, Load, Machine, Recorder, Reply, Roused, Step, StepFault};
 use one_log::{Head, Opened};
 use std::alloc::Global;
 use std::marker::Model;
@@ -41,14 +41,16 @@ impl<L: Course, M: Machine> Model for Shared<L, M> {
     ghost invariant = { λ s. (s.actors ≡ L.parts) × (0 < s.actors) };
 }
 
-/// A pass for each actor, cut off a share of all parts.
+/// A pass for each actor, cut off a share of all parts, with room for what steps do to so many outstations.
 fn passes<L: Course>(
     alloc: Global,
     share: Share<L>,
     head: &mut Head<Made, L>,
     actors: usize,
+    outstations: u8,
 ) -> Result<Vec<Pass<L>>, Memory>
     requires lanes { head.old ≡ record { lanes = 0; log = [] } }
+    requires outstations { length L.setup.outstations ≤ outstations }
     requires parts { (share.parts ≡ L.parts) × (share.parts ≡ actors) }
     requires amount { share.amount ≡ 0 }
     requires some { 0 < actors }
@@ -60,20 +62,29 @@ fn passes<L: Course>(
     let mut share = share;
     let mut passes = Vec::with_capacity(alloc, actors)?;
     for actor in 0..actors - 1 {
+        let effects = Effects::new(alloc, outstations)?;
         passes.push(Pass {
             share: share.split_off(1, 0),
             actor,
-            orders: Orders::untouched(alloc),
+            effects,
             front: head.lane(),
         })?;
     }
+    let effects = Effects::new(alloc, outstations)?;
     passes.push(Pass {
         share,
         actor: actors - 1,
-        orders: Orders::untouched(alloc),
+        effects,
         front: head.lane(),
     })?;
     Ok(passes)
+}
+
+/// How many outstations a machine has; there is no room for what steps do to more than 255.
+fn outstations_of<M: Machine>(machine: &M) -> Result<u8, Memory>
+    ensures { IfOk result (λ count. length (M.seen machine.now).state.controls.outgoing ≤ count) }
+{
+    u8::try_from(machine.outgoing().len()).map_err(|_| Memory)
 }
 
 /// A pass for each actor, and the bells of those who serve.
@@ -82,8 +93,10 @@ fn passes_and_bells<L: Course>(
     share: Share<L>,
     head: &mut Head<Made, L>,
     actors: usize,
+    outstations: u8,
 ) -> Result<(Vec<Pass<L>>, Bells), Memory>
     requires lanes { head.old ≡ record { lanes = 0; log = [] } }
+    requires outstations { length L.setup.outstations ≤ outstations }
     requires parts { (share.parts ≡ L.parts) × (share.parts ≡ actors) }
     requires amount { share.amount ≡ 0 }
     requires some { 0 < actors }
@@ -91,7 +104,7 @@ fn passes_and_bells<L: Course>(
     ensures passes { IfOk result (λ made. made.0.items ≡ map unused (range_with_len 0 actors)) }
     ensures log { head.new.log ≡ [] }
 {
-    let passes = passes(alloc, share, head, actors)?;
+    let passes = passes(alloc, share, head, actors, outstations)?;
     let bells = Bells::new(alloc)?;
     Ok((passes, bells))
 }
@@ -118,7 +131,8 @@ impl<L: Course, M: Machine> Shared<L, M> {
     {
         let (book, share) = blank.open::<L>();
         let mut head = history.named::<L>();
-        let (passes, bells) = passes_and_bells(alloc, share, &mut head, actors)?;
+        let outstations = outstations_of(&machine)?;
+        let (passes, bells) = passes_and_bells(alloc, share, &mut head, actors, outstations)?;
         let core = Core::new(alloc, machine, book, head, actors, capacity)?;
         let shared = Shared {
             actors,

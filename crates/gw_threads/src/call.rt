@@ -5,9 +5,9 @@ ghost use Rattle.gw_shared.specs.Turn.{Answers};
 
 use crate::gate::Gate;
 use dnp_app::Response;
-use gw_shared::{Calls, Course, Orders, Pass, Pumped, Reply, Step, StepFault};
+use gw_shared::{Calls, Course, Effects, Pass, Pumped, Reply, Step, StepFault};
 use iec_apci::{Apdu, Signal};
-use iec_command::{Action, Command, read_command};
+use iec_command::{Action, Command, CommandFault, read_command};
 use std::sync::Wait;
 
 /// What a step is about.
@@ -32,17 +32,33 @@ pub enum About {
     ClientUp(u8),
     /// A client is lost.
     ClientDown(u8),
-    /// An APDU of a client: N(R) of an I or S format, the function of a U format, or a command for a control.
+    /// An APDU of a client: N(R) of an I or S format, the function of a U format, and an ASDU that matters to an operator.
     Frame {
         client: u8,
         acknowledged: Option<u16>,
         signal: Option<Signal>,
-        command: Option<Command>,
+        asked: Asked,
     },
     /// An APDU for a client is asked for.
     Pump(u8),
     /// Time.
     Tick,
+}
+
+/// What a client asks for by an ASDU, as far as it matters to an operator.
+#[derive(Clone, Copy)]
+pub enum Asked {
+    /// A command for a control.
+    Control(Command),
+    /// Something of a type that isn't known in control direction: its type identification, its common address, and the
+    /// address of its first object, where its octets have one.
+    Unknown {
+        identification: u8,
+        common_address: u16,
+        address: Option<u32>,
+    },
+    /// Anything else.
+    Other,
 }
 
 impl About {
@@ -64,7 +80,7 @@ impl About {
                 client: *client,
                 acknowledged: acknowledged_by(apdu),
                 signal: signal_of(apdu),
-                command: command_in(apdu),
+                asked: asked_by(apdu),
             },
             Step::Pump { client, .. } => About::Pump(*client),
             Step::Tick { .. } => About::Tick,
@@ -97,12 +113,41 @@ fn signal_of(apdu: &Apdu) -> Option<Signal> {
     }
 }
 
-/// The command for a control in an APDU, if there is one.
-fn command_in(apdu: &Apdu) -> Option<Command> {
+/// What is asked for by an APDU.
+fn asked_by(apdu: &Apdu) -> Asked {
     match apdu {
-        Apdu::I { asdu, .. } => control_command(asdu.as_slice()),
-        Apdu::S { .. } | Apdu::U(_) => None,
+        Apdu::I { asdu, .. } => asked_in(asdu.as_slice()),
+        Apdu::S { .. } | Apdu::U(_) => Asked::Other,
     }
+}
+
+/// What is asked for by an ASDU.
+fn asked_in(asdu: &[u8]) -> Asked {
+    match read_command(asdu) {
+        Ok(command) if is_for_control(&command.action) => Asked::Control(command),
+        Err(CommandFault::UnknownType) => unknown_in(asdu),
+        _ => Asked::Other,
+    }
+}
+
+/// An ASDU of an unknown type (IEC 60870-5-101, 7.1): its type, qualifier, cause, originator and common address, and then the
+/// address of its first object.
+fn unknown_in(asdu: &[u8]) -> Asked {
+    let (Some(identification), Some(low), Some(high)) = (asdu.first(), asdu.get(4), asdu.get(5))
+    else {
+        return Asked::Other;
+    };
+    Asked::Unknown {
+        identification: *identification,
+        common_address: u16::from_le_bytes([*low, *high]),
+        address: first_object_in(asdu),
+    }
+}
+
+/// The address of the first object of an ASDU, where its octets have one.
+fn first_object_in(asdu: &[u8]) -> Option<u32> {
+    let (low, middle, high) = (asdu.get(6)?, asdu.get(7)?, asdu.get(8)?);
+    Some(u32::from_le_bytes([*low, *middle, *high, 0]))
 }
 
 /// The command for a control that an ASDU spells, in whichever direction it goes: a single command, a double command or
@@ -131,8 +176,8 @@ pub struct Call<'a> {
     pub about: About,
     /// What it was answered with.
     pub reply: &'a Result<Reply, StepFault>,
-    /// What it did to orders besides.
-    pub orders: &'a Orders,
+    /// What it did besides.
+    pub effects: &'a Effects,
 }
 
 /// Pumps for a client that were made one after another, at one moment.
@@ -163,7 +208,7 @@ pub fn make_call<L: Course, S: Calls<L>, R: Wait, G: Gate>(
     let about = About::of(&step);
     let line = gate.line_of(&step);
     let (number, reply) = shared.step(rt, pass, step);
-    tell(gate, number, about, line, &reply, pass.orders());
+    tell(gate, number, about, line, &reply, pass.effects());
     reply
 }
 
@@ -174,13 +219,13 @@ fn tell<'a, G: Gate>(
     about: About,
     line: Option<Vec<u8>>,
     reply: &'a Result<Reply, StepFault>,
-    orders: &'a Orders,
+    effects: &'a Effects,
 ) {
     let call = Call {
         number,
         about,
         reply,
-        orders,
+        effects,
     };
     gate.made(&call, line);
 }

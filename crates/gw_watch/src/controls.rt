@@ -1,12 +1,14 @@
 //! What an operator is told of controls: each command that comes, what the client is told of it, each request that is
 //! given for it, and what becomes of it.
 
-use gw_journal::{CommandEvent, JournalEvent, OrderEvent};
-use gw_model::Ended;
+use gw_journal::{CommandEvent, JournalEvent, OrderEvent, Reason};
 use gw_peers::Desk;
-use gw_threads::{About, Call, Clock, Fate, Reply, Run, Verdict, control_command};
+use gw_threads::{
+    About, Asked, Call, Clock, Fate, OrderEnd, Reply, Run, control_command, order_accepted,
+};
 use iec_apci::Apdus;
 use iec_command::Command;
+use iec_command::causes::{ACTIVATION_CONFIRMATION, DEACTIVATION_CONFIRMATION};
 use std::sync::Wait;
 
 /// The octets in front of an ASDU in its APDU.
@@ -18,42 +20,78 @@ pub fn tell_of_controls<R: Wait, C: Clock>(desk: &Desk<'_, R, C>, call: &Call<'_
         (
             About::Frame {
                 client,
-                command: Some(command),
+                asked: Asked::Control(command),
                 ..
             },
             Ok(_),
         ) => {
-            let order = call.orders.accepted();
+            let order = order_accepted(call.effects);
             tell_command(desk, client, command, CommandEvent::Came { order });
         }
         (About::Poll(outstation), Ok(Reply::Request(request))) => {
             if let Some(order) = request.bond {
+                // The command comes first, and what became of the order before.
+                desk.board.sequence.settle(desk.rt);
                 tell_order(desk, outstation, order, OrderEvent::Given(*request));
             }
         }
-        (
-            About::Fragment { outstation, .. },
-            Ok(
-                Reply::Verdict(
-                    Verdict::Accepted {
-                        control: Some(ended),
-                        ..
-                    },
-                ),
-            ),
-        ) => tell_end(desk, outstation, *ended),
         _ => {}
     }
-    tell_settled(desk, call);
 }
 
-/// Tells what a client is told of its commands for controls by a run of pumps.
+/// Notes what a client is to be told of its command: that it is an order, or why it is refused.
+pub fn note_refusal<R: Wait, C: Clock>(desk: &Desk<'_, R, C>, call: &Call<'_>) {
+    let (About::Frame { client, .. }, Some(judged)) = (call.about, call.effects.command()) else {
+        return;
+    };
+    let Some(card) = desk.board.client(client) else {
+        return;
+    };
+    if let Some(order) = order_accepted(call.effects) {
+        card.reasons.lock(desk.rt).accept(order);
+    } else if let Some(refusal) = judged.refusal {
+        let (mut reasons, reason) = (card.reasons.lock(desk.rt), Reason::Refused(refusal));
+        reasons.refuse(call.number, &judged.command, reason);
+    }
+}
+
+/// Notes why an order failed, for when its client is told.
+fn note_failure<R: Wait, C: Clock>(desk: &Desk<'_, R, C>, step: u64, end: &OrderEnd) {
+    if let Fate::Done | Fate::LetGo = end.fate {
+        return;
+    }
+    if let Some(card) = desk.board.client(end.client) {
+        let (mut reasons, reason) = (card.reasons.lock(desk.rt), Reason::Ended(end.fate));
+        reasons.fail(step, end.order, reason);
+    }
+}
+
+/// Tells what a client is told of its commands for controls by a run of pumps, behind what led to that.
 pub fn tell_of_commands<R: Wait, C: Clock>(desk: &Desk<'_, R, C>, run: &Run<'_>) {
+    let mut is_settled = false;
     for apdu in Apdus(run.octets) {
         if let Some(command) = command_in(apdu) {
-            tell_command(desk, run.client, command, CommandEvent::Told);
+            if !is_settled {
+                desk.board.sequence.settle(desk.rt);
+                is_settled = true;
+            }
+            let reason = reason_of(desk, run.client, &command);
+            tell_command(desk, run.client, command, CommandEvent::Told { reason });
         }
     }
+}
+
+/// Why a command is confirmed negatively to a client, if it is, and if that is known.
+fn reason_of<R: Wait, C: Clock>(
+    desk: &Desk<'_, R, C>,
+    client: u8,
+    told: &Command,
+) -> Option<Reason> {
+    match told.cause {
+        ACTIVATION_CONFIRMATION | DEACTIVATION_CONFIRMATION if told.negative => {}
+        _ => return None,
+    }
+    desk.board.client(client)?.reasons.lock(desk.rt).take(told)
 }
 
 /// Tells what happened with a command of a client.
@@ -91,30 +129,11 @@ fn tell_order<R: Wait, C: Clock>(
     });
 }
 
-/// Tells how an order ended with an answer.
-fn tell_end<R: Wait, C: Clock>(desk: &Desk<'_, R, C>, outstation: u8, ended: Ended) {
-    let what = if ended.done {
-        OrderEvent::Done
-    } else {
-        OrderEvent::Refused
-    };
-    tell_order(desk, outstation, ended.number, what);
-}
-
-/// Tells what became of the orders that ended by a step without an answer.
-fn tell_settled<R: Wait, C: Clock>(desk: &Desk<'_, R, C>, call: &Call<'_>) {
-    for settled in call.orders.settled() {
-        let what = match settled.fate {
-            Fate::Lost => OrderEvent::Lost,
-            Fate::Unanswered => OrderEvent::Unanswered,
-            Fate::LetGo => OrderEvent::LetGo,
-        };
-        tell_order(desk, settled.outstation, settled.order, what);
-    }
-    let left_out = call.orders.left_out();
-    if left_out > 0 {
-        desk.tell(JournalEvent::ControlsLeftOut(left_out));
-    }
+/// Tells how an order ended by the step of this number.
+pub fn tell_end<R: Wait, C: Clock>(desk: &Desk<'_, R, C>, step: u64, end: &OrderEnd) {
+    note_failure(desk, step, end);
+    let outstation = u8::try_from(end.outstation).unwrap_or(u8::MAX);
+    tell_order(desk, outstation, end.order, OrderEvent::Ended(end.fate));
 }
 
 /// The command for a control in an APDU, if there is one.

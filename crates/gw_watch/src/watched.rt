@@ -1,11 +1,11 @@
 //! The server's gate: it keeps what is known of each peer, tells the journal what an operator should know, and hands on
 //! to the gate that it was given. No lock of the core is held here.
 
-use crate::controls::{tell_of_commands, tell_of_controls};
+use crate::controls::{note_refusal, tell_end, tell_of_commands, tell_of_controls};
 use dnp_app::AppFault;
-use gw_journal::{JournalEvent, Unreadable, Way};
-use gw_peers::Desk;
-use gw_threads::{About, Call, Clock, FrameHeader, Gate, Place, Reply, Run, Step, Verdict};
+use gw_journal::{JournalEvent, UnknownAsdu, Unreadable, Way};
+use gw_peers::{Desk, Source};
+use gw_threads::{About, Asked, Call, Clock, FrameHeader, Gate, Place, Reply, Run, Step, Verdict};
 use iec_apci::{Apdu, Apdus, Signal};
 use std::sync::Wait;
 
@@ -55,6 +55,13 @@ fn asked<R: Wait, C: Clock>(desk: &Desk<'_, R, C>, step: u64, outstation: u8, re
     }
 }
 
+/// The request to an outstation wasn't answered in time.
+fn unanswered<R: Wait, C: Clock>(desk: &Desk<'_, R, C>, outstation: usize) {
+    if let Some(card) = desk.board.outstations().get(outstation) {
+        card.figures.lock(desk.rt).unanswered();
+    }
+}
+
 /// A fragment of an outstation with these octets was refused.
 fn refused<R: Wait, C: Clock>(
     desk: &Desk<'_, R, C>,
@@ -84,6 +91,35 @@ fn heard<R: Wait, C: Clock>(desk: &Desk<'_, R, C>, client: u8, signal: Option<Si
     }
     if let Some(signal) = signal {
         signalled(desk, client, signal);
+    }
+}
+
+/// A client asked for something, which may be of a type that isn't known.
+fn asked_unknown<R: Wait, C: Clock>(desk: &Desk<'_, R, C>, client: u8, asked: Asked) {
+    let Asked::Unknown {
+        identification,
+        common_address,
+        address,
+    } = asked
+    else {
+        return;
+    };
+    let Some(card) = desk.board.client(client) else {
+        return;
+    };
+    let asdu = UnknownAsdu {
+        identification,
+        common_address,
+        address,
+    };
+    let wall = desk.clock.wall();
+    let told = card.figures.lock(desk.rt).unknown(wall, asdu);
+    if let Some((address, asdus)) = told {
+        desk.tell(JournalEvent::UnknownTypes {
+            client,
+            address,
+            asdus,
+        });
     }
 }
 
@@ -131,10 +167,36 @@ fn made<R: Wait, C: Clock>(desk: &Desk<'_, R, C>, call: &Call<'_>) {
         (About::Poll(outstation), Ok(Reply::Request(request))) => {
             asked(desk, call.number, outstation, request.as_slice());
         }
-        (About::Frame { client, signal, .. }, Ok(Reply::Taken)) => heard(desk, client, signal),
+        (
+            About::Frame {
+                client,
+                signal,
+                asked,
+                ..
+            },
+            Ok(Reply::Taken),
+        ) => {
+            heard(desk, client, signal);
+            asked_unknown(desk, client, asked);
+        }
         _ => {}
     }
     tell_of_controls(desk, call);
+    // Of a call that was refused the effects are those of the one before.
+    if call.reply.is_ok() {
+        tell_of_effects(desk, call);
+    }
+}
+
+/// Tells what a step did besides its reply.
+fn tell_of_effects<R: Wait, C: Clock>(desk: &Desk<'_, R, C>, call: &Call<'_>) {
+    for outstation in call.effects.unanswered().iter() {
+        unanswered(desk, *outstation);
+    }
+    note_refusal(desk, call);
+    for end in call.effects.ended().iter() {
+        tell_end(desk, call.number, end);
+    }
 }
 
 impl<'a, R: Wait, C: Clock, G: Gate> Gate for Watched<'a, R, C, G> {
@@ -184,6 +246,9 @@ impl<'a, R: Wait, C: Clock, G: Gate> Gate for Watched<'a, R, C, G> {
     }
 
     fn line_of(&self, step: &Step) -> Option<Vec<u8>> {
+        if let Some(source) = source_of(step) {
+            self.desk.board.sequence.begin(self.desk.rt, source);
+        }
         if let Step::Frame {
             client,
             apdu: Apdu::U(Signal::StartAct),
@@ -200,6 +265,9 @@ impl<'a, R: Wait, C: Clock, G: Gate> Gate for Watched<'a, R, C, G> {
     fn made(&self, call: &Call<'_>, line: Option<Vec<u8>>) {
         made(self.desk, call);
         self.gate.made(call, line);
+        if let Some(source) = source_about(call.about) {
+            self.desk.board.sequence.end(self.desk.rt, source);
+        }
     }
 
     fn pumped(&self, run: &Run<'_>) {
@@ -212,6 +280,36 @@ impl<'a, R: Wait, C: Clock, G: Gate> Gate for Watched<'a, R, C, G> {
         self.gate.stood_still(milliseconds);
         self.desk
             .tell(JournalEvent::HostStoodStill { milliseconds });
+    }
+}
+
+/// From where a step comes of which others wait until it was told.
+fn source_of(step: &Step) -> Option<Source> {
+    match step {
+        Step::Frame { client, .. } => Some(Source::Client(*client)),
+        Step::Fragment { response, .. } => Some(Source::Outstation(response.outstation())),
+        Step::OutstationDown { outstation, .. } => Some(Source::Loss(*outstation)),
+        Step::Tick { .. } => Some(Source::Clock),
+        Step::OutstationUp { .. }
+        | Step::Poll { .. }
+        | Step::ClientUp { .. }
+        | Step::ClientDown { .. }
+        | Step::Pump { .. } => None,
+    }
+}
+
+/// The same of one that was made.
+fn source_about(about: About) -> Option<Source> {
+    match about {
+        About::Frame { client, .. } => Some(Source::Client(client)),
+        About::Fragment { outstation, .. } => Some(Source::Outstation(outstation)),
+        About::OutstationDown(outstation) => Some(Source::Loss(outstation)),
+        About::Tick => Some(Source::Clock),
+        About::OutstationUp(_)
+        | About::Poll(_)
+        | About::ClientUp(_)
+        | About::ClientDown(_)
+        | About::Pump(_) => None,
     }
 }
 

@@ -1,9 +1,9 @@
-//! Tests of what calls on a shared core tell of the orders that end without an answer, and of how orders are counted.
+//! Tests of what calls on a shared core tell of the orders that end, and of how orders are counted.
 ghost use Rattle.test_tools.specs.Opening.{IsFor};
 
 use crate::checks::same;
 use gw_capture::{Instruction, read_instruction};
-use gw_shared::{Calls, Course, Fate, Settled, Step};
+use gw_shared::{Calls, Course, Fate, OrderEnd, Step};
 use std::marker::Brand;
 use std::process::Abort;
 use std::sync::Wait;
@@ -33,95 +33,168 @@ const BEGINNING: &[&str] = &[
 /// The outstation answers that it did the first order.
 const DONE: &str = "frag 0 1 C0 81 00 00 0C 01 28 01 00 03 00 03 01 00 00 00 00 00 00 00 00 00";
 
+/// It gives the command back with the status 4: its control doesn't support that.
+const REFUSED: &str = "frag 0 1 C0 81 00 00 0C 01 28 01 00 03 00 03 01 00 00 00 00 00 00 00 00 04";
+
+/// It answers without giving the command back.
+const EMPTY: &str = "frag 0 1 C0 81 00 00";
+
+/// What became of an order.
+#[derive(Clone, Copy, PartialEq)]
+enum Became {
+    Done,
+    Refused,
+    Otherwise,
+    Unanswered,
+    Lost,
+    LetGo,
+}
+
+/// An order that ended: its number, the outstation that it was for, whose it was, and what became of it.
+#[derive(Clone, Copy, PartialEq)]
+struct Ended {
+    order: u64,
+    outstation: usize,
+    client: u8,
+    became: Became,
+}
+
+impl Ended {
+    fn of(end: &OrderEnd) -> Ended {
+        Ended {
+            order: end.order,
+            outstation: end.outstation,
+            client: end.client,
+            became: match end.fate {
+                Fate::Done => Became::Done,
+                Fate::Refused(..) => Became::Refused,
+                Fate::Otherwise(_) => Became::Otherwise,
+                Fate::Unanswered(_) => Became::Unanswered,
+                Fate::Lost => Became::Lost,
+                Fate::LetGo => Became::LetGo,
+            },
+        }
+    }
+}
+
 /// The first order, whose outstation was lost.
-const FIRST_LOST: Settled = Settled {
+const FIRST_LOST: Ended = Ended {
     order: 1,
     outstation: 0,
-    fate: Fate::Lost,
+    client: 0,
+    became: Became::Lost,
 };
 
-const FIRST_UNANSWERED: Settled = Settled {
-    fate: Fate::Unanswered,
+const FIRST_DONE: Ended = Ended {
+    became: Became::Done,
     ..FIRST_LOST
 };
 
-const SECOND_LOST: Settled = Settled {
+const FIRST_REFUSED: Ended = Ended {
+    became: Became::Refused,
+    ..FIRST_LOST
+};
+
+const FIRST_OTHERWISE: Ended = Ended {
+    became: Became::Otherwise,
+    ..FIRST_LOST
+};
+
+const FIRST_UNANSWERED: Ended = Ended {
+    became: Became::Unanswered,
+    ..FIRST_LOST
+};
+
+const SECOND_LOST: Ended = Ended {
     order: 2,
     ..FIRST_LOST
 };
 
-const SECOND_LET_GO: Settled = Settled {
-    fate: Fate::LetGo,
+const SECOND_LET_GO: Ended = Ended {
+    became: Became::LetGo,
     ..SECOND_LOST
 };
 
-const THIRD_LOST: Settled = Settled {
+const THIRD_LOST: Ended = Ended {
     order: 3,
     outstation: 1,
-    fate: Fate::Lost,
+    ..FIRST_LOST
 };
 
-const THIRD_LET_GO: Settled = Settled {
-    fate: Fate::LetGo,
+const THIRD_LET_GO: Ended = Ended {
+    became: Became::LetGo,
     ..THIRD_LOST
 };
 
-const FOURTH_LET_GO: Settled = Settled {
+/// That of the second client.
+const FOURTH_LET_GO: Ended = Ended {
     order: 4,
+    client: 1,
     ..THIRD_LET_GO
 };
 
-const FIFTH_LET_GO: Settled = Settled {
+const FIFTH_LET_GO: Ended = Ended {
     order: 5,
     ..THIRD_LET_GO
 };
 
-/// What happens then; the orders that end by that without an answer; and how many of the two orders for the first
+/// What happens then; the orders that end by that; and how many of the two orders for the first
 /// outstation were done, failed, were let go, and wait still.
 #[derive(Clone, Copy)]
 struct Sequel {
     lines: &'static [&'static str],
-    settled: &'static [Settled],
+    ended: &'static [Ended],
     counts: [u64; 4],
 }
 
-/// Losses, the ways in which a session ends, and an answer that doesn't come.
+/// Answers, losses, the ways in which a session ends, and an answer that doesn't come.
 const SEQUELS: &[Sequel] = &[
     Sequel {
         lines: &["down 1 1"],
-        settled: &[THIRD_LOST],
+        ended: &[THIRD_LOST],
         counts: [0, 0, 0, 2],
     },
     Sequel {
         lines: &["down 0 1"],
-        settled: &[FIRST_LOST, SECOND_LOST],
+        ended: &[FIRST_LOST, SECOND_LOST],
         counts: [0, 2, 0, 0],
+    },
+    Sequel {
+        lines: &[REFUSED],
+        ended: &[FIRST_REFUSED],
+        counts: [0, 1, 0, 1],
+    },
+    Sequel {
+        lines: &[EMPTY],
+        ended: &[FIRST_OTHERWISE],
+        counts: [0, 1, 0, 1],
     },
     // STOPDT act.
     Sequel {
         lines: &["frame 0 1 68 04 13 00 00 00", DONE, "close 0 2"],
-        settled: &[SECOND_LET_GO, THIRD_LET_GO],
+        ended: &[SECOND_LET_GO, THIRD_LET_GO, FIRST_DONE],
         counts: [1, 0, 1, 0],
     },
     Sequel {
         lines: &["close 0 1", "down 0 2"],
-        settled: &[SECOND_LET_GO, THIRD_LET_GO, FIRST_LOST],
+        ended: &[SECOND_LET_GO, THIRD_LET_GO, FIRST_LOST],
         counts: [0, 1, 1, 0],
     },
     // An N(R) that nothing was sent with.
     Sequel {
         lines: &["frame 0 1 68 04 01 00 FE FF", DONE],
-        settled: &[SECOND_LET_GO, THIRD_LET_GO],
+        ended: &[SECOND_LET_GO, THIRD_LET_GO, FIRST_DONE],
         counts: [1, 0, 1, 0],
     },
     // The answer to the first command isn't acknowledged before t1 expires.
     Sequel {
         lines: &["tick 5000", "pump 0 5000", "tick 20000"],
-        settled: &[FIRST_UNANSWERED, SECOND_LET_GO, THIRD_LET_GO],
+        ended: &[FIRST_UNANSWERED, SECOND_LET_GO, THIRD_LET_GO],
         counts: [0, 1, 1, 0],
     },
     // The same with a second client, whose command came before the last one of the first, and whose interrogation's
-    // confirmation isn't acknowledged either. What one tick lets go is told client by client.
+    // confirmation isn't acknowledged either. What one tick lets go is told outstation by
+    // outstation.
     Sequel {
         lines: &[
             "tick 5000",
@@ -135,12 +208,12 @@ const SEQUELS: &[Sequel] = &[
             "pump 1 5000",
             "tick 20000",
         ],
-        settled: &[
+        ended: &[
             FIRST_UNANSWERED,
             SECOND_LET_GO,
             THIRD_LET_GO,
-            FIFTH_LET_GO,
             FOURTH_LET_GO,
+            FIFTH_LET_GO,
         ],
         counts: [0, 1, 1, 0],
     },
@@ -165,24 +238,24 @@ fn run<L: Course, R: Wait + Abort + AllocGlobal>(rt: &R, opening: Opening, seque
             make(rt, &mut core, line, &mut ended);
         }
     }
-    assert!(rt; ended.as_slice() == sequel.settled);
+    assert!(rt; ended.as_slice() == sequel.ended);
     check_counts(rt, &core, sequel);
     core.total(rt).expect(rt, "all passes");
 }
 
-/// Makes the step of a line, and adds the orders that ended by it without an answer.
+/// Makes the step of a line, and adds the orders that ended by it.
 fn make<L: Course, R: Wait + Abort + AllocGlobal>(
     rt: &R,
     core: &mut TestCore<L>,
     line: &str,
-    ended: &mut Vec<Settled>,
+    ended: &mut Vec<Ended>,
 ) {
     let (_number, reply) = core.step(rt, 0, step_of(rt, line)).expect(rt, "a pass");
     assert!(rt; reply.is_ok(), "{line}");
     let pass = core.passes.get_mut(0).expect(rt, "a pass");
-    ended
-        .extend_from_slice(pass.orders().settled())
-        .expect(rt, "memory");
+    for end in pass.effects().ended().iter() {
+        ended.push(Ended::of(end)).expect(rt, "memory");
+    }
 }
 
 /// The step of a line.

@@ -3,5 +3,4 @@ use Rattle.gw_shared.proofs.locked.Core.answer.Goals as goal
 
 pub returns-clause-answers : goal.returns-clause-answers
 returns-clause-answers g c =
-    let same = c.rouse-roused.ensures.pass in
-    rw same (answered _ _ _ _ _ _ _ c.step-answer.ensures.step c.step-answer.ensures.counted)
+    answered _ _ _ _ _ _ _ c.step-answer.ensures.step c.step-answer.ensures.counted

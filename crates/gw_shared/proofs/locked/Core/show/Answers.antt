@@ -1,8 +1,10 @@
-use Rattle.std.proofs.Common.{List, ap, rules, subst, sym, ◌∙◌}
+use Rattle.std.proofs.Common.{ℕ, List, ap, rules, subst, sym, ◌∙◌}
 use Rattle.gw_steps.specs.Runs.{Entry}
-use Rattle.one_log.specs.Follows.{Known, Whole}
+use Rattle.one_log.specs.Follows.{Follows, Known, Whole}
 use Rattle.gw_shared.specs.Reached.{Deed, IsCourse, entries_of}
 use Rattle.gw_shared.specs.Roles.{KeepsRoles}
+use Rattle.gw_shared.specs.Told.{newest_effects}
+use Rattle.gw_shared.proofs.Telling.{told_still}
 use Rattle.gw_shared.proofs.locked.Core.show.Goals as goal
 
 pub invariant_of-pass : goal.invariant_of-pass
@@ -14,4 +16,8 @@ invariant_of-pass g c =
       search rules,
       subst (KeepsRoles g.L.Course.roles) (sym known) c.self.invariant.5,
       subst (λ (l : List Deed). IsCourse g.L.Course.setup (entries_of l)) (sym known) c.self.invariant.4.course,
+      c.pass.invariant.5 ∙ (sym (told_still g.L.Course.setup c.pass.inside.actor c.pass.inside.front.log _
+          (subst (λ (lane : ℕ). Follows lane c.pass.inside.front.log c.self.inside.head.log) c.pass.invariant.2
+          c.show.ensures.follows)) ∙ ap (newest_effects g.L.Course.setup c.pass.inside.actor) (sym known)),
+      c.pass.invariant.6,
     )
