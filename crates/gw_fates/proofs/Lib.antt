@@ -1,0 +1,12 @@
+pub mod Counts
+pub mod Permuted
+pub mod Says
+pub mod Ended
+pub mod Leaving
+pub mod Lost
+pub mod Late
+pub mod Ordering
+pub mod Steps
+pub mod Runs
+pub mod Telling
+pub mod Tells

@@ -1,0 +1,50 @@
+-- A worked run of one outstation and one client, which sets 5002 by SELECT and OPERATE three times: the outstation does
+-- it, it refuses it, and the session ends before it is asked.
+use Rattle.std.specs.Prelude.{ℕ, List, [], ◌∷◌, ◌++◌, map}
+use Rattle.std.proofs.Common.{lit≤}
+use Rattle.iec_apci.specs.declared.apdu.Apdu.TheVariants.{I, U}
+use Rattle.iec_apci.specs.declared.apdu.Signal.TheVariants.{StopAct}
+use Rattle.dnp_master.specs.Example.{setpoint_answer}
+use Rattle.gw_answers.specs.Example.{asdu_with}
+use Rattle.gw_control.specs.Example.{setup}
+use Rattle.gw_steps.specs.declared.effects.Fate.{Fate}
+use Rattle.gw_steps.specs.declared.effects.OrderEnd.{OrderEnd}
+use Rattle.gw_steps.specs.declared.step.Step.{Step}
+use Rattle.gw_steps.specs.declared.step.Step.TheVariants as steps
+use Rattle.gw_steps.specs.Example.{fragment_of, outstation_up, poll, response, starting}
+use Rattle.gw_steps.specs.State.{State, at_first}
+use Rattle.gw_steps.specs.Steps.{after, outcome}
+use Rattle.gw_steps.specs.Runs.{Entry}
+use Rattle.gw_fates.specs.Fates.{done_by}
+
+-- steps behind a past, where none has a fault
+abbrev pub made_after : State → List Entry → List Step → List Entry
+made_after s past [] = past
+made_after s past (step ∷ more) =
+    made_after (after setup s step) (record { step = step; reply = outcome setup s step } ∷ past) more
+
+-- the client is started and the outstation is up, and then these steps were made
+abbrev pub made : List Step → List Entry
+made ss = made_after (at_first setup) [] (starting ++ outstation_up ∷ ss)
+
+-- 5002 is to be set to 1000, behind so many I formats
+abbrev pub sets : ℕ → Step
+sets ns = steps.Frame 0 (I ns 0 (asdu_with (0x31 ∷ 1 ∷ 6 ∷ 0 ∷ 1 ∷ 0 ∷ 0x8A ∷ 0x13 ∷ 0 ∷ 0xE8 ∷ 3 ∷ 0 ∷ []) (lit≤ tt))) 0
+
+-- the answer to the request of a sequence number, with a status
+abbrev pub answers : ℕ → ℕ → Step
+answers control status = fragment_of (response (setpoint_answer (control ∷ 0x81 ∷ 0 ∷ 0 ∷ []) status) [])
+
+abbrev pub done : List Step
+done = sets 0 ∷ poll ∷ answers 0xC0 0 ∷ poll ∷ answers 0xC1 0 ∷ []
+
+abbrev pub refused : List Step
+refused = done ++ sets 1 ∷ poll ∷ answers 0xC2 4 ∷ []
+
+abbrev pub let_go : List Step
+let_go = refused ++ sets 2 ∷ steps.Frame 0 (U StopAct) 0 ∷ []
+
+-- what became of orders in a history, the newest first
+abbrev pub fates : List Entry → List (ℕ × Fate)
+fates [] = []
+fates (e ∷ past) = map (λ (x : OrderEnd). (x.order, x.fate)) (done_by setup past e).ended ++ fates past
