@@ -16,7 +16,7 @@ use Rattle.gw_steps.specs.Sound.{LeavesSound}
 use Rattle.gw_steps.proofs.Running.{entry, last_place}
 use Rattle.gw_history.specs.Premises.{IsSoundRun}
 use Rattle.gw_laws.proofs.Clients.{eight_clients}
-use Rattle.gw_fates.specs.Fates.{Named, accepted_in, all_accepted, all_ended, done_by, down_from, ended_in, on_their_way, HasOneFateEach, NewestEnds}
+use Rattle.gw_fates.specs.Fates.{Named, accepted_in, all_accepted, all_ended, effects_by, down_from, ended_in, on_their_way, HasOneFateEach, NewestEnds}
 use Rattle.gw_fates.proofs.Counts.{all_count, all_so, times, times_append}
 use Rattle.gw_fates.proofs.Ordering.{numbered_with}
 use Rattle.gw_fates.proofs.Permuted.{permuted}
@@ -70,14 +70,14 @@ run_ends p setup [] run sound =
     )
 run_ends p setup (e ∷ past) run sound =
     let newest : times p (on_their_way (state_after setup past))
-    + times p (accepted_in setup e.step (done_by setup past e))
-    ≡ times p (ended_in (done_by setup past e)) + times p (on_their_way (state_after setup (e ∷ past))) =
+    + times p (accepted_in setup e.step (effects_by setup past e))
+    ≡ times p (ended_in (effects_by setup past e)) + times p (on_their_way (state_after setup (e ∷ past))) =
     entry_ends p setup past e.step e.reply run.0 (last_place (LeavesSound setup) past sound.1) in
     omega (
       arith,
       newest,
-      times_append p (accepted_in setup e.step (done_by setup past e)) (all_accepted setup past),
-      times_append p (ended_in (done_by setup past e)) (all_ended setup past),
+      times_append p (accepted_in setup e.step (effects_by setup past e)) (all_accepted setup past),
+      times_append p (ended_in (effects_by setup past e)) (all_ended setup past),
       run_ends p setup past run.1 sound.1,
     )
 
@@ -86,7 +86,7 @@ run_numbers : (setup : Setup) (past : List Entry)
 run_numbers setup [] = refl
 run_numbers setup (e ∷ past) =
     let number : Named → ℕ = λ x. x.number in
-    let accepted : List Named = accepted_in setup e.step (done_by setup past e) in
+    let accepted : List Named = accepted_in setup e.step (effects_by setup past e) in
     map-append number accepted (all_accepted setup past)
     ∙ (ap (λ (ns : List ℕ). map number accepted ++ ns) (run_numbers setup past)
     ∙ entry_numbers setup past e.step e.reply)
@@ -97,8 +97,8 @@ newest_ends setup [] run sound = tt
 newest_ends setup (e ∷ past) run sound =
     let s : State = state_after setup past in
     let new : State = state_after setup (e ∷ past) in
-    let accepted : List Named = accepted_in setup e.step (done_by setup past e) in
-    let ended : List Named = ended_in (done_by setup past e) in
+    let accepted : List Named = accepted_in setup e.step (effects_by setup past e) in
+    let ended : List Named = ended_in (effects_by setup past e) in
     permuted (on_their_way s ++ accepted) (ended ++ on_their_way new)
     (λ p. times_append p (on_their_way s) accepted
     ∙ (entry_ends p setup past e.step e.reply run.0 (last_place (LeavesSound setup) past sound.1)

@@ -1,6 +1,6 @@
 -- A worked run of one outstation and one client, which sets 5002 by SELECT and OPERATE three times: the outstation does
 -- it, it refuses it, and the session ends before it is asked.
-use Rattle.std.specs.Prelude.{ℕ, List, [], ◌∷◌, ◌++◌, map}
+use Rattle.std.specs.Prelude.{ℕ, Bool, List, [], ◌∷◌, ◌++◌, map}
 use Rattle.std.proofs.Common.{lit≤}
 use Rattle.iec_apci.specs.declared.apdu.Apdu.TheVariants.{I, U}
 use Rattle.iec_apci.specs.declared.apdu.Signal.TheVariants.{StopAct}
@@ -15,7 +15,8 @@ use Rattle.gw_steps.specs.Example.{fragment_of, outstation_up, poll, response, s
 use Rattle.gw_steps.specs.State.{State, at_first}
 use Rattle.gw_steps.specs.Steps.{after, outcome}
 use Rattle.gw_steps.specs.Runs.{Entry}
-use Rattle.gw_fates.specs.Fates.{done_by}
+use Rattle.gw_fates.specs.Fates.{effects_by}
+use Rattle.gw_fates.specs.Told.{told_in}
 
 -- steps behind a past, where none has a fault
 abbrev pub made_after : State → List Entry → List Step → List Entry
@@ -41,10 +42,23 @@ done = sets 0 ∷ poll ∷ answers 0xC0 0 ∷ poll ∷ answers 0xC1 0 ∷ []
 abbrev pub refused : List Step
 refused = done ++ sets 1 ∷ poll ∷ answers 0xC2 4 ∷ []
 
+-- STOPDT act
+abbrev pub stops : Step
+stops = steps.Frame 0 (U StopAct) 0
+
 abbrev pub let_go : List Step
-let_go = refused ++ sets 2 ∷ steps.Frame 0 (U StopAct) 0 ∷ []
+let_go = refused ++ sets 2 ∷ stops ∷ []
+
+-- its session ends while the order is under way
+abbrev pub left : List Step
+left = sets 0 ∷ poll ∷ stops ∷ answers 0xC0 0 ∷ poll ∷ answers 0xC1 0 ∷ []
 
 -- what became of orders in a history, the newest first
 abbrev pub fates : List Entry → List (ℕ × Fate)
 fates [] = []
-fates (e ∷ past) = map (λ (x : OrderEnd). (x.order, x.fate)) (done_by setup past e).ended ++ fates past
+fates (e ∷ past) = map (λ (x : OrderEnd). (x.order, x.fate)) (effects_by setup past e).ended ++ fates past
+
+-- and what the client was told
+abbrev pub told : List Entry → List (ℕ × Bool)
+told [] = []
+told (e ∷ past) = told_in setup past e ++ told past

@@ -73,18 +73,18 @@ accepted_in setup _ told = []
 -- ---- what all steps of a history told
 
 -- what an entry behind a past did
-abbrev pub done_by : Setup → List Entry → Entry → Effects
-done_by setup past e = effects_with setup (state_after setup past) e.step e.reply
+abbrev pub effects_by : Setup → List Entry → Entry → Effects
+effects_by setup past e = effects_with setup (state_after setup past) e.step e.reply
 
 -- which orders ended, those of the newest entry first
 abbrev pub all_ended : Setup → List Entry → List Named
 all_ended setup [] = []
-all_ended setup (e ∷ past) = ended_in (done_by setup past e) ++ all_ended setup past
+all_ended setup (e ∷ past) = ended_in (effects_by setup past e) ++ all_ended setup past
 
 -- which were accepted, the newest first
 abbrev pub all_accepted : Setup → List Entry → List Named
 all_accepted setup [] = []
-all_accepted setup (e ∷ past) = accepted_in setup e.step (done_by setup past e) ++ all_accepted setup past
+all_accepted setup (e ∷ past) = accepted_in setup e.step (effects_by setup past e) ++ all_accepted setup past
 
 -- ---- the law
 
@@ -102,7 +102,7 @@ StepEnds setup s step told new =
 abbrev pub NewestEnds : Setup → List Entry → Type 0
 NewestEnds setup [] = Unit {0}
 NewestEnds setup (e ∷ past) =
-    StepEnds setup (state_after setup past) e.step (done_by setup past e) (state_after setup (e ∷ past))
+    StepEnds setup (state_after setup past) e.step (effects_by setup past e) (state_after setup (e ∷ past))
 
 pub record HasOneFateEach (setup : Setup) (past : List Entry) : Type 0 where
   -- orders are numbered from 1 on, as they are accepted

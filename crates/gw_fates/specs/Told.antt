@@ -15,7 +15,7 @@ use Rattle.gw_steps.specs.declared.step.Step.TheVariants as steps
 use Rattle.gw_steps.specs.State.{State}
 use Rattle.gw_steps.specs.Steps.{controls_closed, latest, outcomes_of}
 use Rattle.gw_steps.specs.Runs.{Entry, state_after, unless_fault}
-use Rattle.gw_fates.specs.Fates.{done_by}
+use Rattle.gw_fates.specs.Fates.{effects_by}
 
 -- ---- fates
 
@@ -55,11 +55,19 @@ told_by_end x = (x.client, is_done x.fate)
 abbrev pub told_by_outcome : Outcome → ℕ × Bool
 told_by_outcome x = (x.client, x.done)
 
+-- by an entry behind a past, one after the other
+abbrev pub told_in : Setup → List Entry → Entry → List (ℕ × Bool)
+told_in setup past e =
+    map told_by_outcome (unless_fault [] (λ _. outcomes_of (state_after setup past) e.step) e.reply)
+
 -- ---- the law
 
--- what the newest entry tells clients of their orders is what became of these, one after the other
+-- of the orders that end in an entry
+abbrev pub due_by_fates : Setup → List Entry → Entry → List (ℕ × Bool)
+due_by_fates setup past e =
+    map told_by_end (filter (is_told (controls_then (state_after setup past) e.step)) (effects_by setup past e).ended)
+
+-- what the newest entry tells is what became of them
 abbrev pub TellsFates : Setup → List Entry → Type 0
 TellsFates setup [] = Unit {0}
-TellsFates setup (e ∷ past) =
-    map told_by_outcome (unless_fault [] (λ _. outcomes_of (state_after setup past) e.step) e.reply)
-    ≡ map told_by_end (filter (is_told (controls_then (state_after setup past) e.step)) (done_by setup past e).ended)
+TellsFates setup (e ∷ past) = told_in setup past e ≡ due_by_fates setup past e

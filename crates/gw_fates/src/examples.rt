@@ -1,12 +1,12 @@
 //! A worked run: three orders, each with a fate of its own.
-ghost use Rattle.std.specs.Prelude.{◌≡◌, [], ◌∷◌, ◌++◌, map};
+ghost use Rattle.std.specs.Prelude.{◌≡◌, [], ◌∷◌, ◌++◌, map, false, true};
 ghost use Rattle.dnp_app.specs.declared.operation.Operation.TheVariants.{Select};
 ghost use Rattle.gw_control.specs.Example.{setup};
 ghost use Rattle.gw_steps.specs.Example.{poll};
 ghost use Rattle.gw_steps.specs.declared.effects.Fate.TheVariants as fated;
 ghost use Rattle.gw_steps.specs.Runs.{state_after};
 ghost use Rattle.gw_fates.specs.Fates.{all_accepted, all_ended, on_their_way};
-ghost use Rattle.gw_fates.specs.Example.{done, fates, let_go, made, refused, sets};
+ghost use Rattle.gw_fates.specs.Example.{done, fates, left, let_go, made, refused, sets, told};
 
 /// One is done, one is refused, and one is let go.
 #[tactic(auto, unfolding(iec_command::specs::Commands::command_of, dnp_objects::specs::Headers::headers_from, dnp_objects::specs::Library::object_of))]
@@ -16,6 +16,10 @@ pub fn fates_by_example()
     ensures under_way { map (λ x. x.number) (on_their_way (state_after setup (made (done ++ sets 1 ∷ poll ∷ [])))) ≡ 2 ∷ [] }
     ensures refused { fates (made refused) ≡ (2, fated.Refused Select 4) ∷ (1, fated.Done) ∷ [] }
     ensures let_go { fates (made let_go) ≡ (3, fated.LetGo) ∷ (2, fated.Refused Select 4) ∷ (1, fated.Done) ∷ [] }
+    ensures told { told (made let_go) ≡ (0, false) ∷ (0, true) ∷ [] }
+    // It goes on where its session ends while it is under way, and nobody is told of it.
+    ensures left { fates (made left) ≡ (1, fated.Done) ∷ [] }
+    ensures untold { told (made left) ≡ [] }
     ensures accepted { map (λ x. x.number) (all_accepted setup (made let_go)) ≡ 3 ∷ 2 ∷ 1 ∷ [] }
     ensures ended { map (λ x. x.number) (all_ended setup (made let_go)) ≡ 3 ∷ 2 ∷ 1 ∷ [] }
     ensures none_left { on_their_way (state_after setup (made let_go)) ≡ [] }
