@@ -15,6 +15,8 @@ ghost use Rattle.gw_laws.specs.Connections.{Connections};
 ghost use Rattle.gw_laws.specs.Promises.{Promises};
 ghost use Rattle.gw_orders.specs.Bonds.{Bonds, HasShortIndex};
 ghost use Rattle.gw_orders.specs.ToldOnce.{TellsOnce};
+ghost use Rattle.gw_fates.specs.Fates.{HasOneFateEach};
+ghost use Rattle.gw_fates.specs.Told.{TellsFates};
 ghost use Rattle.gw_orders.specs.Outcomes.{TellsDue};
 ghost use Rattle.gw_orders.specs.Commands.{AnswersCommands};
 ghost use Rattle.gw_orders.specs.Requests.{Requests};
@@ -173,6 +175,10 @@ impl Hub {
     ///   the command of which it is: done where the outstation took what the newest request asked, and that operates.
     /// - `due`: each order's outcome is told in the step that ends it, while the session of its execute stands: where
     ///   its request was answered to the end, where no answer came in time, or where its outstation is lost.
+    /// - `fates`: each accepted order ends in exactly one fate, which is told beside the reply of the step that ends it, of
+    ///   its outstation and its client, or it is on its way; no end is told of anything else.
+    /// - `told`: a client is told done of an order exactly where its fate is that the outstation did it; nobody is told of
+    ///   an order whose session has ended.
     /// - `commands`: an ASDU that is taken is a command for a control exactly where it spells one for this station, and
     ///   for a control of its type. It is confirmed, and an execute accepted, exactly where the history permits it: by
     ///   its value, who selected the control, and whether the outstation is up and how many orders wait there.
@@ -202,6 +208,8 @@ impl Hub {
         ensures bonds { IfOk result (λ run. AtEach (Bonds settings) (history [] steps.items run.1.items)) }
         ensures outcomes { IfOk result (λ run. AtEach (TellsOnce settings) (history [] steps.items run.1.items)) }
         ensures due { IfOk result (λ run. AtEach (TellsDue settings) (history [] steps.items run.1.items)) }
+        ensures fates { IfOk result (λ run. AtEach (HasOneFateEach settings) (history [] steps.items run.1.items)) }
+        ensures told { IfOk result (λ run. AtEach (TellsFates settings) (history [] steps.items run.1.items)) }
         ensures commands { IfOk result (λ run.
             AtEach (AnswersCommands settings) (history [] steps.items run.1.items)) }
         ensures requests { IfOk result (λ run. AtEach (Requests settings) (history [] steps.items run.1.items)) }

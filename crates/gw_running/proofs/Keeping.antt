@@ -10,6 +10,8 @@ use Rattle.gw_orders.proofs.Bonded.{bound, told_once}
 use Rattle.gw_orders.proofs.Follows.{told_when_due}
 use Rattle.gw_orders.proofs.CommandsTold.{commands_answered}
 use Rattle.gw_orders.proofs.RequestPlaces.{requests_due}
+use Rattle.gw_fates.proofs.Runs.{fates}
+use Rattle.gw_fates.proofs.Tells.{fates_told}
 use Rattle.gw_laws.proofs.Promised.{keeps_promises}
 use Rattle.gw_laws.proofs.Kept.{keeps_connections}
 use Rattle.gw_shared.specs.declared.close.Closed.{Closed}
@@ -25,6 +27,8 @@ keeps_all setup past run indices =
       bonds = bound setup past controls;
       outcomes = told_once setup past controls;
       due = told_when_due setup past run indices;
+      fates = fates setup past run;
+      told = fates_told setup past run;
       commands = commands_answered setup past run indices;
       requests = requests_due setup past run indices;
       connections = keeps_connections setup past run;

@@ -4,6 +4,8 @@ use Rattle.gw_map.specs.Settings.{Setup}
 use Rattle.gw_steps.specs.State.{Hub}
 use Rattle.gw_steps.specs.Runs.{Entry, state_after, AtEach, IsRun}
 use Rattle.gw_shared.specs.Reached.{Deed, entries_of}
+use Rattle.gw_fates.specs.Fates.{HasOneFateEach}
+use Rattle.gw_fates.specs.Told.{TellsFates}
 use Rattle.gw_laws.specs.Connections.{Connections}
 use Rattle.gw_laws.specs.Promises.{Promises}
 use Rattle.gw_orders.specs.Bonds.{Bonds}
@@ -19,6 +21,8 @@ pub record KeepsAll (setup : Setup) (past : List Entry) : Type 0 where
   pub bonds : AtEach (Bonds setup) past
   pub outcomes : AtEach (TellsOnce setup) past
   pub due : AtEach (TellsDue setup) past
+  pub fates : AtEach (HasOneFateEach setup) past
+  pub told : AtEach (TellsFates setup) past
   pub commands : AtEach (AnswersCommands setup) past
   pub requests : AtEach (Requests setup) past
   pub connections : AtEach (Connections setup) past

@@ -11,6 +11,8 @@ use Rattle.gw_orders.proofs.Bonded.{bound, told_once}
 use Rattle.gw_orders.proofs.Follows.{told_when_due}
 use Rattle.gw_orders.proofs.CommandsTold.{commands_answered}
 use Rattle.gw_orders.proofs.RequestPlaces.{requests_due}
+use Rattle.gw_fates.proofs.Runs.{fates}
+use Rattle.gw_fates.proofs.Tells.{fates_told}
 use Rattle.gw_laws.proofs.Promised.{keeps_promises}
 use Rattle.gw_laws.proofs.Kept.{keeps_connections}
 use Rattle.gw_hub.proofs.hub.Hub.run.Goals as goal
@@ -54,6 +56,18 @@ returns-clause-due c =
     told_when_due c.args.settings _
     (run_of _ _ _ c.args.steps.items c.in_ok-replies.replies.items c.in_ok-hub.ensures.setup c.deref.ensures.value
     c.in_ok-replies.ensures.run) c.in_ok-hub.ensures.indices
+
+pub returns-clause-fates : goal.returns-clause-fates
+returns-clause-fates c =
+    fates c.args.settings _
+    (run_of _ _ _ c.args.steps.items c.in_ok-replies.replies.items c.in_ok-hub.ensures.setup c.deref.ensures.value
+    c.in_ok-replies.ensures.run)
+
+pub returns-clause-told : goal.returns-clause-told
+returns-clause-told c =
+    fates_told c.args.settings _
+    (run_of _ _ _ c.args.steps.items c.in_ok-replies.replies.items c.in_ok-hub.ensures.setup c.deref.ensures.value
+    c.in_ok-replies.ensures.run)
 
 pub returns-clause-commands : goal.returns-clause-commands
 returns-clause-commands c =
