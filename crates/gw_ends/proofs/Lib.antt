@@ -4,3 +4,5 @@ pub mod Joined
 pub mod Runs
 pub mod Follow
 pub mod Worked
+pub mod Whole
+pub mod Spelled

@@ -7,6 +7,7 @@ mod answer;
 mod batch;
 mod ends;
 pub mod examples;
+pub mod laws;
 mod line;
 mod putting;
 mod sent;
