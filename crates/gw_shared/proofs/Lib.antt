@@ -5,3 +5,4 @@ pub mod Pumping
 pub mod Making
 pub mod Reaching
 pub mod Telling
+pub mod Numbers

@@ -6,3 +6,4 @@ pub mod Reached
 pub mod Told
 pub mod Roles
 pub mod Example
+pub mod Tried

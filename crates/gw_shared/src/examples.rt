@@ -1,16 +1,27 @@
-//! Who may make which calls, by an example.
+//! Who may make which calls, and how many, by examples.
 ghost use Rattle.std.specs.Prelude.{◌≡◌, [], ◌∷◌, Ok};
 ghost use Rattle.gw_steps.specs.declared.step.Step.TheVariants as steps;
 ghost use Rattle.gw_steps.specs.declared.step.Reply.TheVariants as replies;
 ghost use Rattle.gw_shared.specs.Example.{left};
 ghost use Rattle.gw_shared.specs.Reached.{entry};
 ghost use Rattle.gw_shared.specs.Roles.{KeepsRoles, MayMake};
+ghost use Rattle.gw_shared.specs.Turn.{last_call};
 
-/// Actor 7 alone pumps for client 3; anybody pumps for client 2, polls, and makes ticks.
-pub fn pumps_are_left()
+/// Actor 7 alone pumps for client 3, and actor 5 alone polls outstation 2; anybody pumps for client 2, polls outstation 0, and
+/// makes ticks.
+pub fn calls_are_left()
     ensures one { MayMake left 7 (steps.Pump 3 0) }
     ensures other { MayMake left 6 (steps.Pump 3 0) → ⊥ }
+    ensures poller { MayMake left 5 (steps.Poll 2 0 0) }
+    ensures other_poller { MayMake left 7 (steps.Poll 2 0 0) → ⊥ }
     ensures others { MayMake left 6 (steps.Pump 2 0) × MayMake left 6 (steps.Poll 0 0 0) × MayMake left 6 (steps.Tick 0) }
     ensures kept { KeepsRoles left ((7, entry (steps.Pump 3 0) (Ok replies.Nothing))
-        ∷ (6, entry (steps.Tick 0) (Ok (replies.Ticked 0))) ∷ []) }
+        ∷ (5, entry (steps.Poll 2 0 0) (Ok replies.Nothing)) ∷ (6, entry (steps.Tick 0) (Ok (replies.Ticked 0))) ∷ []) }
+    ensures not_kept { KeepsRoles left ((6, entry (steps.Tick 0) (Ok (replies.Ticked 0)))
+        ∷ (6, entry (steps.Poll 2 0 0) (Ok replies.Nothing)) ∷ []) → ⊥ }
+{}
+
+/// As many calls can be counted as 64 bits count.
+pub fn counted_by_64_bits()
+    ensures { last_call ≡ 18446744073709551615 }
 {}

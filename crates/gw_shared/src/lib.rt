@@ -7,6 +7,7 @@ mod calls;
 mod close;
 mod course;
 pub mod examples;
+pub mod laws;
 mod locked;
 mod pass;
 mod pumped;
