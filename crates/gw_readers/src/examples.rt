@@ -1,7 +1,10 @@
-//! What is confirmed, and what is stepped, by an example.
+//! What is confirmed, what is stepped, and for whom, by examples.
 ghost use Rattle.std.specs.Prelude.{◌≡◌, ℕ, List, [], ◌∷◌, Ok, Err, Some, None, true, false};
 ghost use Rattle.dnp_app.specs.Response.{Fragment};
-ghost use Rattle.dnp_master.specs.declared.verdict.Verdict.TheVariants.{Accepted, Repeated};
+ghost use Rattle.dnp_app.specs.declared.request.Request.{Request};
+ghost use Rattle.dnp_master.specs.declared.verdict.Ignored.TheVariants.{NoRequest};
+ghost use Rattle.dnp_master.specs.declared.verdict.Verdict.TheVariants.{Accepted, Ignored, Repeated};
+ghost use Rattle.iec_apci.specs.declared.apdu.Apdu.{Apdu};
 ghost use Rattle.iec_apci.specs.declared.apdu.Apdu.TheVariants as formats;
 ghost use Rattle.iec_apci.specs.Apdu.{Supervisory};
 ghost use Rattle.gw_steps.specs.declared.step.Step.TheVariants as steps;
@@ -10,17 +13,18 @@ ghost use Rattle.gw_steps.specs.declared.step.StepFault.TheVariants as faults;
 ghost use Rattle.gw_ends.specs.declared.sent.Sent.TheVariants as sents;
 ghost use Rattle.gw_ends.specs.declared.worker_end.WorkerEnd.TheVariants as ends;
 ghost use Rattle.gw_threads.specs.Calls.{given_by};
-ghost use Rattle.gw_readers.specs.Confirms.{confirmation_given, confirmations_sent};
-ghost use Rattle.gw_readers.specs.Frames.{apdu_in};
+ghost use Rattle.gw_readers.specs.Confirms.{confirmation_given, confirmations_sent, IsRead, IsReaders};
+ghost use Rattle.gw_readers.specs.Frames.{apdu_in, IsOf};
 ghost use Rattle.gw_readers.specs.Heard.{IsSaid, response_in};
 
-/// A fragment that asks for a confirmation, one that doesn't, and the first one once more; what is sent for them, with a
-/// reply of the link. A client's S format is stepped.
+/// A fragment that asks for a confirmation, one that doesn't, one that is ignored, and the first one once more; what is sent for
+/// them, with a reply of the link. A client's S format is stepped.
 pub fn confirmed_and_stepped()
     ensures given { (f g : Fragment) (a : List ℕ) → given_by confirmation_given
         (record { step = steps.Fragment f 1; number = 1; reply = Ok (replies.Verdict (Accepted (Some a) false None)) }
         ∷ record { step = steps.Fragment g 2; number = 2; reply = Ok (replies.Verdict (Accepted None true None)) }
-        ∷ record { step = steps.Fragment f 3; number = 5; reply = Ok (replies.Verdict (Repeated (Some a))) } ∷ [])
+        ∷ record { step = steps.Fragment g 3; number = 4; reply = Ok (replies.Verdict (Ignored NoRequest)) }
+        ∷ record { step = steps.Fragment f 4; number = 5; reply = Ok (replies.Verdict (Repeated (Some a))) } ∷ [])
         ≡ a ∷ a ∷ [] }
     ensures sent { (a frame : List ℕ) → confirmations_sent (record { what = sents.Confirm a; whole = true }
         ∷ record { what = sents.Reply frame; whole = true } ∷ record { what = sents.Confirm a; whole = false } ∷ [])
@@ -41,4 +45,19 @@ pub fn heard_and_left()
         ≡ f ∷ g ∷ [] }
     ensures stopping { (f g h : Fragment) → IsSaid (f ∷ g ∷ h ∷ []) (f ∷ g ∷ []) (Some ends.Stopping) }
     ensures ended { (f g h : Fragment) → IsSaid (f ∷ g ∷ h ∷ []) (f ∷ g ∷ []) (Some ends.EndOfInput) → ⊥ }
+{}
+
+/// The reader of client 0 steps its APDUs, and tells its loss; of client 1 it does neither, and it makes no other step.
+pub fn of_one_client()
+    ensures own { (a : Apdu) (m : ℕ) → IsOf 0 (steps.Frame 0 a m) × IsOf 0 (steps.ClientDown 0 m) }
+    ensures other_apdu { (a : Apdu) (m : ℕ) → IsOf 0 (steps.Frame 1 a m) → ⊥ }
+    ensures other_loss { (m : ℕ) → IsOf 0 (steps.ClientDown 1 m) → ⊥ }
+    ensures pump { (m : ℕ) → IsOf 0 (steps.Pump 0 m) → ⊥ }
+{}
+
+/// The reader of an outstation polls nothing, and sends no request.
+pub fn reads_alone()
+    ensures poll { (m w : ℕ) → IsRead (steps.Poll 2 m w) → ⊥ }
+    ensures sends { (a frame : List ℕ) → IsReaders (sents.Confirm a) × IsReaders (sents.Reply frame) × IsReaders sents.Status }
+    ensures no_request { (r : Request) → IsReaders (sents.Request r) → ⊥ }
 {}

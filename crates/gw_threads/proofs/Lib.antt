@@ -4,3 +4,4 @@ pub mod Carried
 pub mod Requesting
 pub mod Standing
 pub mod Alone
+pub mod Whole

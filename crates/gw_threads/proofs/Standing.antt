@@ -1,7 +1,7 @@
 -- What of a history is an actor's own.
-use Rattle.std.proofs.Common.{◌≡◌, inl, inr, ℕ, List, [], ◌∷◌, ◌++◌, refl, sym, ap, subst, ◌∙◌, append_assoc}
+use Rattle.std.proofs.Common.{◌≡◌, inl, inr, ℕ, Bool, List, [], ◌∷◌, ◌++◌, map, refl, sym, ap, subst, ◌∙◌, append_assoc}
 use Rattle.std.specs.Prelude.{reverse}
-use Rattle.std.proofs.lemmas.List.{reverse-append}
+use Rattle.std.proofs.lemmas.List.{append-nil, reverse-append, reverse-reverse}
 use Rattle.one_log.specs.Follows.{Known, of_lane}
 use Rattle.one_log.proofs.Lanes.{of_lane_added, same_of_lane}
 use Rattle.gw_map.specs.Settings.{Setup}
@@ -10,8 +10,10 @@ use Rattle.gw_shared.specs.Reached.{entry}
 use Rattle.gw_shared.specs.Turn.{Pass}
 use Rattle.gw_shared.proofs.Pumping.{same_actor}
 use Rattle.gw_ends.specs.declared.sent.Sending.{Sending}
-use Rattle.gw_threads.specs.Sends.{AreSent}
-use Rattle.gw_threads.specs.Standing.{SentAlone, StandAlone}
+use Rattle.gw_ends.specs.Sent.{IsNew}
+use Rattle.gw_threads.specs.Sends.{AreSent, SendsAll}
+use Rattle.gw_threads.specs.Standing.{SentAlone, StandAlone, all_sent}
+use Rattle.gw_threads.specs.Writers.{SentByPolls}
 use Rattle.gw_threads.specs.Calls.{AreCalls, Call}
 
 pub calls_stand : (setup : Setup) (mine after : Pass) (calls : List Call) → AreCalls setup mine calls after
@@ -67,4 +69,27 @@ sends_stand old new (s ∷ sends) sent =
       all =
           subst (λ (k : ℕ). of_lane k new.log ≡ reverse sends ++ of_lane k mid.log) lane more.all
           ∙ (ap (λ (l : List Sending). reverse sends ++ l) here ∙ reverse_then s sends (of_lane old.lane old.log));
+    }
+
+-- what a worker sent since it joined a line is all that the line's history has of it
+pub sent_since : (joined front : Known Sending) (sends : List Sending) → IsNew joined → AreSent joined sends front
+    → all_sent front ≡ sends
+sent_since joined front sends new sent =
+    let alone = sends_stand joined front sends sent in
+    ap (λ (k : ℕ). reverse (of_lane k front.log)) alone.lane
+    ∙ (ap (λ (l : List Sending). reverse l)
+    (alone.all ∙ (ap (λ (l : List Sending). reverse sends ++ l) new ∙ append-nil (reverse sends)))
+    ∙ reverse-reverse sends)
+
+pub polls_sent : (setup : Setup) (outstation : ℕ) (mine after : Pass) (front : Known Sending) (cut : Bool)
+    → SendsAll setup outstation mine after front cut → SentByPolls setup outstation mine after front
+polls_sent setup outstation mine after front cut all =
+    let run = all.1.1 in
+    record {
+      calls = run.calls;
+      made = run.made;
+      own = run.own;
+      requests =
+          ap (λ (l : List Sending). map (λ (s : Sending). s.what) l) (sent_since all.0 front run.sends all.1.0 run.sent)
+          ∙ run.same;
     }

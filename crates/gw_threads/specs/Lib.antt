@@ -3,3 +3,5 @@ pub mod Carries
 pub mod Written
 pub mod Sends
 pub mod Standing
+pub mod Writers
+pub mod Whole

@@ -70,7 +70,8 @@ pub record SendsAllGiven (outstation : ℕ) (mine after : Pass) (front : Known S
   pub all : all_given (is_poll outstation) request_given (entries_of after.seen)
       ≡ all_given (is_poll outstation) request_given (entries_of mine.seen) ++ requests
 
--- a call that polls the outstation was answered so
+-- a call that polls the outstation was answered so; its moment and its wall time are what the worker's clock showed, which no
+-- contract sees
 abbrev pub PollsOnce : Setup → ℕ → Pass → Pass → Result Reply StepFault → Type 0
 PollsOnce setup outstation mine after reply =
     (moment : ℕ) × ((wall : ℕ) × ((number : ℕ) × Answers setup mine after (steps.Poll outstation moment wall) (number, reply)))

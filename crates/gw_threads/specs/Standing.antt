@@ -28,3 +28,7 @@ pub record StandAlone (mine after : Pass) (calls : List Call) : Type 0 where
 pub record SentAlone (old new : Known Sending) (sends : List Sending) : Type 0 where
   pub lane : new.lane ≡ old.lane
   pub all : of_lane old.lane new.log ≡ reverse sends ++ of_lane old.lane old.log
+
+-- all that a line's history has of this worker, the oldest first
+abbrev pub all_sent : Known Sending → List Sending
+all_sent front = reverse (of_lane front.lane front.log)

@@ -1,11 +1,16 @@
 //! Laws of calls, and of what is sent.
-ghost use Rattle.std.specs.Prelude.{List};
+ghost use Rattle.std.specs.Prelude.{ℕ, Bool, List};
+ghost use Rattle.iec_apci.specs.declared.buffer.ApduBuf.{ApduBuf};
 ghost use Rattle.one_log.specs.Follows.{Known};
+ghost use Rattle.gw_ends.specs.Octets.{octets_in};
 ghost use Rattle.gw_ends.specs.declared.sent.Sending.{Sending};
 ghost use Rattle.gw_map.specs.Settings.{Setup};
 ghost use Rattle.gw_shared.specs.Turn.{Pass};
-ghost use Rattle.gw_threads.specs.Sends.{AreSent};
+ghost use Rattle.gw_threads.specs.Sends.{AreSent, SendsAll};
 ghost use Rattle.gw_threads.specs.Standing.{SentAlone, StandAlone};
+ghost use Rattle.gw_threads.specs.Whole.{IsWhole};
+ghost use Rattle.gw_threads.specs.Writers.{SentByPolls};
+ghost use Rattle.gw_threads.specs.Written.{IsPutOut};
 ghost use Rattle.gw_threads.specs.Calls.{AreCalls, Call};
 
 /// Calls that are made with a pass one after another are, since the pass knew a beginning of the one history, all calls of
@@ -21,4 +26,17 @@ pub fn calls_stand_alone()
 #[tactic(auto, using(crate::proofs::Standing::sends_stand))]
 pub fn sends_stand_alone()
     ensures { (old new : Known Sending) (sends : List Sending) → AreSent old sends new → SentAlone old new sends }
+{}
+
+/// All that a line's history has of an outstation's writer are the requests that its polls were answered with, each once, in
+/// their order: it sent nothing before its first poll.
+pub fn writers_send_what_polls_give()
+    ensures { (setup : Setup) (outstation : ℕ) (mine after : Pass) (front : Known Sending) (cut : Bool)
+        → SendsAll setup outstation mine after front cut → SentByPolls setup outstation mine after front }
+{}
+
+/// The octets that a client's writer hands over for an APDU are that one APDU: no octet of it is missing, and nothing comes behind.
+#[tactic(auto, using(crate::proofs::Whole::put_out_whole))]
+pub fn put_out_apdus_are_whole()
+    ensures { (client : ℕ) (apdu : ApduBuf) → IsPutOut client apdu → IsWhole (octets_in apdu) }
 {}
