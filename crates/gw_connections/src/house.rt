@@ -1,5 +1,6 @@
 //! What the threads share that make steps on the core.
 ghost use Rattle.gw_shared.specs.Roles.{MayMake};
+ghost use Rattle.gw_shared.specs.Tried.{IsTried};
 
 use gw_peers::Desk;
 use gw_readers::{Calls, Clock, Course, Gate, Pass, Step, make_call};
@@ -20,6 +21,7 @@ pub fn is_made<L: Course, S: Calls<L>, R: Wait, C: Clock, G: Gate>(
     step: Step,
 ) -> bool
     requires may { MayMake L.roles pass.old.actor step }
+    ensures { IsTried L.setup pass.old pass.new step result }
 {
     make_call(house.desk.rt, house.shared, pass, step, house.gate).is_ok()
 }

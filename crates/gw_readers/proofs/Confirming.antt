@@ -24,12 +24,13 @@ sent_then (s ∷ a) b =
     ap (λ (rest : List (List ℕ)). confirmation_sent s.what ++ rest) (sent_then a b)
     ∙ sym (append_assoc (confirmation_sent s.what) (confirmations_sent a) (confirmations_sent b))
 
-pub reads_then : (setup : Setup) (mine mid after : Pass) (x y z : Known Sending) (a b : Bool)
-    → ReadsAll setup mine mid x y a → ReadsAll setup mid after y z b → ReadsAll setup mine after x z (a || b)
-reads_then setup mine mid after x y z a b first more = record {
+pub reads_then : (setup : Setup) (outstation : ℕ) (mine mid after : Pass) (x y z : Known Sending) (a b : Bool)
+    → ReadsAll setup outstation mine mid x y a → ReadsAll setup outstation mid after y z b
+    → ReadsAll setup outstation mine after x z (a || b)
+reads_then setup outstation mine mid after x y z a b first more = record {
   calls = first.calls ++ more.calls;
   made = calls_then setup mine mid after first.calls more.calls first.made more.made;
-  own = all-append (λ (c : Call). IsRead c.step) first.calls more.calls first.own more.own;
+  own = all-append (λ (c : Call). IsRead outstation c.step) first.calls more.calls first.own more.own;
   sends = first.sends ++ more.sends;
   sent = sends_then x y z first.sends more.sends first.sent more.sent;
   only = all-append (λ (s : Sending). IsReaders s.what) first.sends more.sends first.only more.only;
@@ -41,15 +42,24 @@ reads_then setup mine mid after x y z a b first more = record {
   cut_is = cuts_then first.sends more.sends a b first.cut_is more.cut_is;
 }
 
-pub reads_none : (setup : Setup) (mine : Pass) (x : Known Sending) → ReadsAll setup mine mine x x false
-reads_none setup mine x =
+-- so also where it is said of another name of the outstation
+pub reads_next : (setup : Setup) (outstation other : ℕ) (mine mid after : Pass) (x y z : Known Sending) (b : Bool)
+    → other ≡ outstation → ReadsAll setup outstation mine mid x y false → ReadsAll setup other mid after y z b
+    → ReadsAll setup outstation mine after x z b
+reads_next setup outstation other mine mid after x y z b same first more =
+    reads_then setup outstation mine mid after x y z false b first
+    (subst (λ (o : ℕ). ReadsAll setup o mid after y z b) same more)
+
+pub reads_none : (setup : Setup) (outstation : ℕ) (mine : Pass) (x : Known Sending)
+    → ReadsAll setup outstation mine mine x x false
+reads_none setup outstation mine x =
     record { calls = []; made = refl; own = tt; sends = []; sent = refl; only = tt; same = refl; cut_is = refl }
 
 -- a frame of the link was sent
-pub reads_sent : (setup : Setup) (mine : Pass) (x y : Known Sending) (what : Sent) (whole cut : Bool)
+pub reads_sent : (setup : Setup) (outstation : ℕ) (mine : Pass) (x y : Known Sending) (what : Sent) (whole cut : Bool)
     → IsReaders what → confirmation_sent what ≡ [] → IsSent x y what whole → not whole ≡ cut
-    → ReadsAll setup mine mine x y cut
-reads_sent setup mine x y what whole cut only none sent cut_is = record {
+    → ReadsAll setup outstation mine mine x y cut
+reads_sent setup outstation mine x y what whole cut only none sent cut_is = record {
   calls = [];
   made = refl;
   own = tt;
@@ -60,15 +70,15 @@ reads_sent setup mine x y what whole cut only none sent cut_is = record {
   cut_is = or_false (not whole) ∙ cut_is;
 }
 
--- a fragment was stepped, and confirmed where that is owed
-pub reads_step : (setup : Setup) (mine after : Pass) (x y : Known Sending) (f : Fragment) (moment number : ℕ)
-    (reply : Result Reply StepFault) (cut : Bool)
+-- a fragment of the outstation was stepped, and confirmed where that is owed
+pub reads_step : (setup : Setup) (outstation : ℕ) (mine after : Pass) (x y : Known Sending) (f : Fragment)
+    (moment number : ℕ) (reply : Result Reply StepFault) (cut : Bool) → f.outstation ≡ outstation
     → Answers setup mine after (steps.Fragment f moment) (number, reply) → Confirms reply x y cut
-    → ReadsAll setup mine after x y cut
-reads_step setup mine after x y f moment number reply cut answers confirms = record {
+    → ReadsAll setup outstation mine after x y cut
+reads_step setup outstation mine after x y f moment number reply cut own answers confirms = record {
   calls = record { step = steps.Fragment f moment; number = number; reply = reply } ∷ [];
   made = (after, (answers, refl));
-  own = (tt, tt);
+  own = (own, tt);
   sends = confirms.sends;
   sent = confirms.sent;
   only = confirms.only;
@@ -78,14 +88,14 @@ reads_step setup mine after x y f moment number reply cut answers confirms = rec
 
 -- the outstation was lost
 pub reads_loss : (setup : Setup) (outstation : ℕ) (mine mid after : Pass) (x y : Known Sending) (cut : Bool)
-    → ReadsAll setup mine mid x y cut → TellsOutstationLoss setup outstation mid after
-    → ReadsAll setup mine after x y cut
+    → ReadsAll setup outstation mine mid x y cut → TellsOutstationLoss setup outstation mid after
+    → ReadsAll setup outstation mine after x y cut
 reads_loss setup outstation mine mid after x y cut first loss =
-    subst (ReadsAll setup mine after x y) (or_false cut)
-    (reads_then setup mine mid after x y y cut false first (record {
+    subst (ReadsAll setup outstation mine after x y) (or_false cut)
+    (reads_then setup outstation mine mid after x y y cut false first (record {
       calls = record { step = steps.OutstationDown outstation loss.0; number = loss.1.0; reply = loss.1.1.0 } ∷ [];
       made = (after, (loss.1.1.1, refl));
-      own = (tt, tt);
+      own = (refl, tt);
       sends = [];
       sent = refl;
       only = tt;
@@ -93,9 +103,9 @@ reads_loss setup outstation mine mid after x y cut first loss =
       cut_is = refl;
     }))
 
-pub reads_own : (setup : Setup) (mine after : Pass) (x y : Known Sending) (cut : Bool)
-    → ReadsAll setup mine after x y cut → after.actor ≡ mine.actor
-reads_own setup mine after x y cut reads = calls_own setup mine after reads.calls reads.made
+pub reads_own : (setup : Setup) (outstation : ℕ) (mine after : Pass) (x y : Known Sending) (cut : Bool)
+    → ReadsAll setup outstation mine after x y cut → after.actor ≡ mine.actor
+reads_own setup outstation mine after x y cut reads = calls_own setup mine after reads.calls reads.made
 
 -- nothing is owed
 pub confirms_none : (reply : Result Reply StepFault) (x : Known Sending) → confirmation_in reply ≡ []

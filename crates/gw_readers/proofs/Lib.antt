@@ -1,4 +1,5 @@
 pub mod Confirming
+pub mod Due
 pub mod Framing
 pub mod Hearing
 pub mod Worked

@@ -17,11 +17,11 @@ use Rattle.one_log.specs.Follows.{Known}
 use Rattle.gw_threads.specs.Calls.{AreCalls, Call, given_by}
 use Rattle.gw_threads.specs.Sends.{AreSent}
 
--- a step is of a fragment, or tells that an outstation is lost
-abbrev pub IsRead : Step → Type 0
-IsRead (steps.Fragment f moment) = Unit {0}
-IsRead (steps.OutstationDown o moment) = Unit {0}
-IsRead _ = ⊥
+-- a step is of a fragment of an outstation, or tells that it is lost
+abbrev pub IsRead : ℕ → Step → Type 0
+IsRead outstation (steps.Fragment f moment) = f.outstation ≡ outstation
+IsRead outstation (steps.OutstationDown o moment) = o ≡ outstation
+IsRead outstation _ = ⊥
 
 abbrev pub octets_of : Option (List ℕ) → List (List ℕ)
 octets_of None = []
@@ -53,13 +53,14 @@ IsReaders sents.Status = Unit {0}
 IsReaders (sents.Confirm octets) = Unit {0}
 IsReaders (sents.Request request) = ⊥
 
--- all calls of the pass in that time were of fragments, or told a loss; it sent no request; and the confirmations that the
+-- all calls of the pass in that time were of fragments of the outstation, or told that it is lost; it sent no request; and the confirmations that the
 -- worker sent on the line, in its history, are just those that its fragments were answered with, each once, in this order;
 -- something that it sent wasn't taken whole, or all was
-pub record ReadsAll (setup : Setup) (mine after : Pass) (old new : Known Sending) (cut : Bool) : Type 0 where
+pub record ReadsAll (setup : Setup) (outstation : ℕ) (mine after : Pass) (old new : Known Sending) (cut : Bool)
+    : Type 0 where
   pub calls : List Call
   pub made : AreCalls setup mine calls after
-  pub own : AllByRecursion (λ (c : Call). IsRead c.step) calls
+  pub own : AllByRecursion (λ (c : Call). IsRead outstation c.step) calls
   pub sends : List Sending
   pub sent : AreSent old sends new
   pub only : AllByRecursion (λ (s : Sending). IsReaders s.what) sends
@@ -67,9 +68,9 @@ pub record ReadsAll (setup : Setup) (mine after : Pass) (old new : Known Sending
   pub cut_is : is_cut_off sends ≡ cut
 
 -- and that is all that the worker sent since it joined the line
-abbrev pub ReadsOn : Setup → Pass → Pass → Known Sending → Bool → Type 0
-ReadsOn setup mine after front cut =
-    (joined : Known Sending) × (IsNew joined × ReadsAll setup mine after joined front cut)
+abbrev pub ReadsOn : Setup → ℕ → Pass → Pass → Known Sending → Bool → Type 0
+ReadsOn setup outstation mine after front cut =
+    (joined : Known Sending) × (IsNew joined × ReadsAll setup outstation mine after joined front cut)
 
 -- what an answer owes was sent, but wasn't taken whole, or was
 pub record Confirms (reply : Result Reply StepFault) (old new : Known Sending) (cut : Bool) : Type 0 where

@@ -1,6 +1,6 @@
 //! What is confirmed, what is stepped, and for whom, by examples.
 ghost use Rattle.std.specs.Prelude.{◌≡◌, ℕ, List, [], ◌∷◌, Ok, Err, Some, None, true, false};
-ghost use Rattle.dnp_app.specs.Response.{Fragment};
+ghost use Rattle.dnp_app.specs.Response.{Fragment, fragment_of};
 ghost use Rattle.dnp_app.specs.declared.request.Request.{Request};
 ghost use Rattle.dnp_master.specs.declared.verdict.Ignored.TheVariants.{NoRequest};
 ghost use Rattle.dnp_master.specs.declared.verdict.Verdict.TheVariants.{Accepted, Ignored, Repeated};
@@ -55,9 +55,13 @@ pub fn of_one_client()
     ensures pump { (m : ℕ) → IsOf 0 (steps.Pump 0 m) → ⊥ }
 {}
 
-/// The reader of an outstation polls nothing, and sends no request.
+/// The reader of outstation 0 steps its fragments, and tells its loss; of outstation 1 it does neither. It polls nothing, and
+/// sends no request.
 pub fn reads_alone()
-    ensures poll { (m w : ℕ) → IsRead (steps.Poll 2 m w) → ⊥ }
+    ensures own { (a : List ℕ) (m : ℕ) → IsRead 0 (steps.Fragment (fragment_of 0 a []) m) × IsRead 0 (steps.OutstationDown 0 m) }
+    ensures other_fragment { (a : List ℕ) (m : ℕ) → IsRead 0 (steps.Fragment (fragment_of 1 a []) m) → ⊥ }
+    ensures other_loss { (m : ℕ) → IsRead 0 (steps.OutstationDown 1 m) → ⊥ }
+    ensures poll { (m w : ℕ) → IsRead 2 (steps.Poll 2 m w) → ⊥ }
     ensures sends { (a frame : List ℕ) → IsReaders (sents.Confirm a) × IsReaders (sents.Reply frame) × IsReaders sents.Status }
     ensures no_request { (r : Request) → IsReaders (sents.Request r) → ⊥ }
 {}

@@ -5,6 +5,7 @@
 
 mod client_reading;
 pub mod examples;
+pub mod laws;
 mod link_check;
 mod outstation_reading;
 

@@ -103,7 +103,7 @@ pub fn outstation_reader<
 ) -> (Pass<L>, Front<Sending, N>, WorkerEnd)
     ensures own { result.0.actor ≡ pass.actor }
     // It ended by a failed write exactly where something that it sent wasn't taken whole.
-    ensures confirmed { ReadsOn L.setup pass result.0 result.1 (is_write_fault (Some result.2)) }
+    ensures confirmed { ReadsOn L.setup outstation pass result.0 result.1 (is_write_fault (Some result.2)) }
     ensures heard { Hears L.setup outstation receiver pass result.0 (I.given input.old) (I.given input.new) result.2 }
     ensures end { MayEndBetween result.2 }
     // It ended by a failed read exactly where one failed, unless one had before.
@@ -153,7 +153,7 @@ impl<
     ) -> WorkerEnd
         requires drained { IsDrained feed.old }
         ensures outstation { self.new.outstation ≡ self.old.outstation }
-        ensures confirmed { ReadsAll L.setup self.old.pass self.new.pass self.old.front self.new.front
+        ensures confirmed { ReadsAll L.setup self.old.outstation self.old.pass self.new.pass self.old.front self.new.front
             (is_write_fault (Some result)) }
         ensures heard { HearsOctets L.setup self.old.outstation self.old.pass self.new.pass receiver.old receiver.new
             feed.old feed.new (I.given input.old) (I.given input.new) (Some result) }
@@ -180,7 +180,7 @@ impl<
     ) -> Option<WorkerEnd>
         requires drained { IsDrained feed.old }
         ensures outstation { self.new.outstation ≡ self.old.outstation }
-        ensures confirmed { ReadsAll L.setup self.old.pass self.new.pass self.old.front self.new.front
+        ensures confirmed { ReadsAll L.setup self.old.outstation self.old.pass self.new.pass self.old.front self.new.front
             (is_write_fault result) }
         ensures heard { HearsOctets L.setup self.old.outstation self.old.pass self.new.pass receiver.old receiver.new
             feed.old feed.new (I.given input.old) (I.given input.new) result }
@@ -235,7 +235,7 @@ impl<
     fn look(&mut self) -> Option<WorkerEnd>
         ensures outstation { self.new.outstation ≡ self.old.outstation }
         ensures pass { self.new.pass ≡ self.old.pass }
-        ensures confirmed { ReadsAll L.setup self.old.pass self.new.pass self.old.front self.new.front
+        ensures confirmed { ReadsAll L.setup self.old.outstation self.old.pass self.new.pass self.old.front self.new.front
             (is_write_fault result) }
         ensures end { IfSome result IsOfSilence }
     {
@@ -257,7 +257,7 @@ impl<
     fn ask_status(&mut self) -> Option<WorkerEnd>
         ensures outstation { self.new.outstation ≡ self.old.outstation }
         ensures pass { self.new.pass ≡ self.old.pass }
-        ensures confirmed { ReadsAll L.setup self.old.pass self.new.pass self.old.front self.new.front
+        ensures confirmed { ReadsAll L.setup self.old.outstation self.old.pass self.new.pass self.old.front self.new.front
             (is_write_fault result) }
         ensures end { IfSome result IsOfSilence }
     {
@@ -276,7 +276,7 @@ impl<
         piece: &[u8],
     ) -> Option<WorkerEnd>
         ensures outstation { self.new.outstation ≡ self.old.outstation }
-        ensures confirmed { ReadsAll L.setup self.old.pass self.new.pass self.old.front self.new.front
+        ensures confirmed { ReadsAll L.setup self.old.outstation self.old.pass self.new.pass self.old.front self.new.front
             (is_write_fault result) }
         ensures heard { HearsPiece L.setup self.old.outstation self.old.pass self.new.pass receiver.old receiver.new
             (feed.old ++ piece.now) feed.new result }
@@ -307,7 +307,7 @@ impl<
     #[tactic(auto, using(crate::proofs::Confirming::reads_none))]
     fn take_frame(&mut self, receiver: &mut Receiver, frame: &Frame) -> Option<WorkerEnd>
         ensures outstation { self.new.outstation ≡ self.old.outstation }
-        ensures confirmed { ReadsAll L.setup self.old.pass self.new.pass self.old.front self.new.front
+        ensures confirmed { ReadsAll L.setup self.old.outstation self.old.pass self.new.pass self.old.front self.new.front
             (is_write_fault result) }
         ensures heard { HearsFrames L.setup self.old.outstation self.old.pass self.new.pass receiver.old receiver.new
             (content frame.now ∷ []) result }
@@ -339,7 +339,7 @@ impl<
     fn answer_link(&mut self, reply: &Option<[u8; 10]>) -> Option<WorkerEnd>
         ensures outstation { self.new.outstation ≡ self.old.outstation }
         ensures pass { self.new.pass ≡ self.old.pass }
-        ensures confirmed { ReadsAll L.setup self.old.pass self.new.pass self.old.front self.new.front
+        ensures confirmed { ReadsAll L.setup self.old.outstation self.old.pass self.new.pass self.old.front self.new.front
             (is_write_fault result) }
         ensures end { IfSome result IsOfFrames }
     {
@@ -360,7 +360,7 @@ impl<
     fn take_fragment(&mut self, octets: Vec<u8>) -> Option<WorkerEnd>
         requires { length octets.items ≤ 2048 }
         ensures outstation { self.new.outstation ≡ self.old.outstation }
-        ensures confirmed { ReadsAll L.setup self.old.pass self.new.pass self.old.front self.new.front
+        ensures confirmed { ReadsAll L.setup self.old.outstation self.old.pass self.new.pass self.old.front self.new.front
             (is_write_fault result) }
         ensures heard { HearsOf L.setup self.old.pass self.new.pass
             (option_to_list (response_at self.old.outstation octets.items)) result }
@@ -394,8 +394,9 @@ impl<
 
     /// Makes the step of a response, and sends its confirmation where one is owed. How the worker ends, if it does.
     fn step(&mut self, response: Response) -> Option<WorkerEnd>
+        requires own { response.outstation ≡ self.old.outstation }
         ensures outstation { self.new.outstation ≡ self.old.outstation }
-        ensures confirmed { ReadsAll L.setup self.old.pass self.new.pass self.old.front self.new.front
+        ensures confirmed { ReadsAll L.setup self.old.outstation self.old.pass self.new.pass self.old.front self.new.front
             (is_write_fault result) }
         ensures heard { HearsOf L.setup self.old.pass self.new.pass (response ∷ []) result }
         ensures end { IfSome result IsOfFrames }
@@ -419,8 +420,9 @@ impl<
 
     /// Makes the step of a response, and sends its confirmation where one is owed. How the worker ends, if it does.
     fn ask(&mut self, response: Response) -> Option<WorkerEnd>
+        requires own { response.outstation ≡ self.old.outstation }
         ensures outstation { self.new.outstation ≡ self.old.outstation }
-        ensures confirmed { ReadsAll L.setup self.old.pass self.new.pass self.old.front self.new.front
+        ensures confirmed { ReadsAll L.setup self.old.outstation self.old.pass self.new.pass self.old.front self.new.front
             (is_write_fault result) }
         ensures heard { HearsOf L.setup self.old.pass self.new.pass (response ∷ []) result }
         ensures end { IfSome result IsOfFrames }

@@ -3,5 +3,6 @@ pub mod Carries
 pub mod Written
 pub mod Sends
 pub mod Standing
+pub mod Ticking
 pub mod Writers
 pub mod Whole

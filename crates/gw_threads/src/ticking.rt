@@ -1,5 +1,6 @@
 //! The clock's ticks, and pauses.
 ghost use Rattle.std.specs.Prelude.{◌≡◌};
+ghost use Rattle.gw_threads.specs.Ticking.{Ticks};
 
 use crate::call::make_call;
 use crate::gate::Gate;
@@ -27,6 +28,7 @@ const PIECES: u32 = 10;
 /// Makes a tick every 100 milliseconds, until it is asked to end or no further step can be counted. Behind a standstill of
 /// the host, of which the gate is told, the readers first have 200 milliseconds to take what came meanwhile: only ticks
 /// judge what is late.
+#[tactic(auto, using(crate::proofs::TicksAlone::ticks_then, crate::proofs::TicksAlone::ticks_none))]
 pub fn clock<L: Course, S: Calls<L>, R: Wait + Sleeps, C: Clock, G: Gate>(
     rt: &R,
     shared: &S,
@@ -35,6 +37,7 @@ pub fn clock<L: Course, S: Calls<L>, R: Wait + Sleeps, C: Clock, G: Gate>(
     gate: &G,
 ) -> (Pass<L>, WorkerEnd)
     ensures own { result.0.actor ≡ pass.actor }
+    ensures ticks { Ticks L.setup pass result.0 }
     ensures end { result.1 ≡ WorkerEnd.Stopping }
 {
     let mut pass = pass;
@@ -49,6 +52,7 @@ pub fn clock<L: Course, S: Calls<L>, R: Wait + Sleeps, C: Clock, G: Gate>(
 }
 
 /// Makes a tick, or puts it off behind a standstill. How many milliseconds later the next turn comes, if one does.
+#[tactic(auto, using(crate::proofs::TicksAlone::ticks_none))]
 fn take_turn<L: Course, S: Calls<L>, R: Wait, C: Clock, G: Gate>(
     rt: &R,
     shared: &S,
@@ -57,7 +61,8 @@ fn take_turn<L: Course, S: Calls<L>, R: Wait, C: Clock, G: Gate>(
     clock: &C,
     gate: &G,
 ) -> Option<u64>
-    ensures { pass.new.actor ≡ pass.old.actor }
+    ensures own { pass.new.actor ≡ pass.old.actor }
+    ensures ticks { Ticks L.setup pass.old pass.new }
 {
     if shared.stopping() {
         return None;

@@ -18,7 +18,7 @@ returns-clause-confirmed g c = (
 
 pub returns-clause-own : goal.returns-clause-own
 returns-clause-own g c =
-    reads_own _ _ _ _ _ _
+    reads_own _ _ _ _ _ _ _
     (reads_loss _ _ _ _ _ _ _ _ c.read_on-end.ensures.confirmed c.lose_outstation.ensures.told)
 
 pub returns-clause-heard : goal.returns-clause-heard

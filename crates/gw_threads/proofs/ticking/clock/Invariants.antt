@@ -1,6 +1,10 @@
+-- All calls so far were ticks, with the pass that was given.
 use Rattle.std.proofs.Common.{◌≡◌}
+use Rattle.gw_threads.specs.Ticking.{Ticks}
 use Rattle.gw_threads.proofs.ticking.clock.Given as goal
 
--- the pass is the one that was given
 abbrev pub invariant-ticks : goal.invariant-ticks
-invariant-ticks g l = l.pass.actor ≡ l.fn.pass.actor
+invariant-ticks g l = record {
+  own : l.pass.actor ≡ l.fn.pass.actor;
+  made : Ticks g.L.Course.setup l.fn.pass l.pass;
+}

@@ -1,13 +1,13 @@
 use Rattle.std.proofs.Common.{ℕ, Some, None, refl, subst, ◌∙◌}
 use Rattle.gw_readers.specs.Heard.{HearsOctets}
-use Rattle.gw_readers.proofs.Confirming.{reads_none, reads_then}
+use Rattle.gw_readers.proofs.Confirming.{reads_next, reads_none}
 use Rattle.gw_readers.proofs.Hearing.{octets_drained, octets_none, octets_then}
 use Rattle.gw_readers.proofs.outstation_reading.Reading.read_on.Goals as goal
 
 pub pieces-init : goal.pieces-init
 pieces-init g c = record {
   outstation = refl;
-  confirmed = reads_none g.L.Course.setup c.args.self.now.pass c.args.self.now.front;
+  confirmed = reads_none g.L.Course.setup c.args.self.now.outstation c.args.self.now.pass c.args.self.now.front;
   heard =
       octets_none g.L.Course.setup c.args.self.now.outstation c.args.self.now.pass c.args.receiver.now c.args.feed.now
       (g.I.Incoming.given c.args.input.now) (g.I.Incoming.given c.args.input.now) None c.requires.drained refl;
@@ -17,7 +17,9 @@ pieces-init g c = record {
 
 pub returns-in-Some-read-clause-confirmed : goal.returns-in-Some-read-clause-confirmed
 returns-in-Some-read-clause-confirmed g c =
-    reads_then _ _ c.pieces.self.pass _ _ _ _ _ _ c.pieces.invariant.confirmed c.in-Some-read.ensures.confirmed
+    reads_next g.L.Course.setup c.args.self.now.outstation c.pieces.self.outstation c.args.self.now.pass c.pieces.self.pass
+    c.read.new.self.pass c.args.self.now.front c.pieces.self.front c.read.new.self.front _ c.pieces.invariant.outstation
+    c.pieces.invariant.confirmed c.in-Some-read.ensures.confirmed
 
 pub returns-in-Some-read-clause-heard : goal.returns-in-Some-read-clause-heard
 returns-in-Some-read-clause-heard g c =
@@ -43,7 +45,9 @@ pieces-preserved g c =
     record {
       outstation = c.read.ensures.outstation ∙ c.pieces.invariant.outstation;
       confirmed =
-          reads_then _ _ c.pieces.self.pass _ _ _ _ _ _ c.pieces.invariant.confirmed c.in_default.ensures.confirmed;
+          reads_next setup c.args.self.now.outstation c.pieces.self.outstation c.args.self.now.pass c.pieces.self.pass
+          c.read.new.self.pass c.args.self.now.front c.pieces.self.front c.read.new.self.front _
+          c.pieces.invariant.outstation c.pieces.invariant.confirmed c.in_default.ensures.confirmed;
       heard =
           octets_then setup c.args.self.now.outstation c.args.self.now.pass c.pieces.self.pass c.read.new.self.pass
           c.args.receiver.now c.pieces.receiver c.read.new.receiver c.args.feed.now c.pieces.feed c.read.new.feed

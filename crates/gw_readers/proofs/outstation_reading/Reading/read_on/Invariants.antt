@@ -7,7 +7,7 @@ use Rattle.gw_readers.proofs.outstation_reading.Reading.read_on.Given as goal
 abbrev pub invariant-pieces : goal.invariant-pieces
 invariant-pieces g l = record {
   outstation : l.self.outstation ≡ l.fn.self.outstation;
-  confirmed : ReadsAll g.L.Course.setup l.fn.self.pass l.self.pass l.fn.self.front l.self.front false;
+  confirmed : ReadsAll g.L.Course.setup l.fn.self.outstation l.fn.self.pass l.self.pass l.fn.self.front l.self.front false;
   heard : HearsOctets g.L.Course.setup l.fn.self.outstation l.fn.self.pass l.self.pass l.fn.receiver l.receiver l.fn.feed
       l.feed (g.I.Incoming.given l.fn.input) (g.I.Incoming.given l.input) None;
   drained : IsDrained l.feed;

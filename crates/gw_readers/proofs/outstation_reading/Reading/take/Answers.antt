@@ -4,13 +4,14 @@ use Rattle.dnp_link.specs.Stream.{reading, reading_with_first}
 use Rattle.dnp_link.specs.declared.event.LinkEvent.{LinkEvent}
 use Rattle.gw_ends.specs.declared.worker_end.WorkerEnd.TheVariants as ends
 use Rattle.gw_readers.specs.Heard.{HearsFrames}
-use Rattle.gw_readers.proofs.Confirming.{reads_none, reads_then}
+use Rattle.gw_readers.proofs.Confirming.{reads_next, reads_none}
 use Rattle.gw_readers.proofs.Framing.{fed_whole}
 use Rattle.gw_readers.proofs.Hearing.{halfway_frame, halfway_none, piece_ended, piece_none}
 use Rattle.gw_readers.proofs.outstation_reading.Reading.take.Goals as goal
 
 pub returns-then-is_err-clause-confirmed : goal.returns-then-is_err-clause-confirmed
-returns-then-is_err-clause-confirmed g c = reads_none g.L.Course.setup c.args.self.now.pass c.args.self.now.front
+returns-then-is_err-clause-confirmed g c =
+    reads_none g.L.Course.setup c.args.self.now.outstation c.args.self.now.pass c.args.self.now.front
 
 pub returns-then-is_err-clause-heard : goal.returns-then-is_err-clause-heard
 returns-then-is_err-clause-heard g c =
@@ -20,7 +21,7 @@ returns-then-is_err-clause-heard g c =
 pub events-init : goal.events-init
 events-init g c = record {
   outstation = refl;
-  confirmed = reads_none g.L.Course.setup c.args.self.now.pass c.args.self.now.front;
+  confirmed = reads_none g.L.Course.setup c.args.self.now.outstation c.args.self.now.pass c.args.self.now.front;
   heard = halfway_none g.L.Course.setup c.args.self.now.outstation c.args.self.now.pass c.args.receiver.now
       (c.args.feed.now ++ c.args.piece.now) c.feed.new.self
       (fed_whole _ _ c.feed.ensures.ok (sym c.if-is_err.ensures.value));
@@ -28,7 +29,9 @@ events-init g c = record {
 
 pub returns-in-Some-take_frame-clause-confirmed : goal.returns-in-Some-take_frame-clause-confirmed
 returns-in-Some-take_frame-clause-confirmed g c =
-    reads_then _ _ c.events.self.pass _ _ _ _ _ _ c.events.invariant.confirmed c.in-Some-take_frame.ensures.confirmed
+    reads_next g.L.Course.setup c.args.self.now.outstation c.events.self.outstation c.args.self.now.pass c.events.self.pass
+    c.take_frame.new.self.pass c.args.self.now.front c.events.self.front c.take_frame.new.self.front _
+    c.events.invariant.outstation c.events.invariant.confirmed c.in-Some-take_frame.ensures.confirmed
 
 pub returns-in-Some-take_frame-clause-heard : goal.returns-in-Some-take_frame-clause-heard
 returns-in-Some-take_frame-clause-heard g c =
@@ -58,8 +61,9 @@ events-preserved-in_default-take_frame g c =
     record {
       outstation = c.take_frame.ensures.outstation ∙ c.events.invariant.outstation;
       confirmed =
-          reads_then _ _ c.events.self.pass _ _ _ _ _ _ c.events.invariant.confirmed
-          c.in_default-take_frame.ensures.confirmed;
+          reads_next g.L.Course.setup c.args.self.now.outstation c.events.self.outstation c.args.self.now.pass mid after
+          c.args.self.now.front c.events.self.front c.take_frame.new.self.front _ c.events.invariant.outstation
+          c.events.invariant.confirmed c.in_default-take_frame.ensures.confirmed;
       heard =
           halfway_frame setup c.args.self.now.outstation c.args.self.now.pass mid after c.args.receiver.now y z
           (c.args.feed.now ++ c.args.piece.now) c.events.feed c.next.new.self frame

@@ -7,7 +7,7 @@ use Rattle.gw_readers.proofs.outstation_reading.Reading.take.Given as goal
 abbrev pub invariant-events : goal.invariant-events
 invariant-events g l = record {
   outstation : l.self.outstation ≡ l.fn.self.outstation;
-  confirmed : ReadsAll g.L.Course.setup l.fn.self.pass l.self.pass l.fn.self.front l.self.front false;
+  confirmed : ReadsAll g.L.Course.setup l.fn.self.outstation l.fn.self.pass l.self.pass l.fn.self.front l.self.front false;
   heard : Halfway g.L.Course.setup l.fn.self.outstation l.fn.self.pass l.self.pass l.fn.receiver l.receiver
       (l.fn.feed ++ l.piece) l.feed;
 }

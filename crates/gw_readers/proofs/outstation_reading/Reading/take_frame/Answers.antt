@@ -4,13 +4,16 @@ use Rattle.dnp_link.specs.FrameContent.{content}
 use Rattle.gw_shared.specs.Turn.{Pass}
 use Rattle.gw_ends.specs.declared.worker_end.WorkerEnd.TheVariants as ends
 use Rattle.gw_readers.specs.Heard.{HearsFrames, HearsOf}
-use Rattle.gw_readers.proofs.Confirming.{reads_then}
+use Rattle.gw_readers.proofs.Confirming.{reads_next}
 use Rattle.gw_readers.proofs.Hearing.{frame_heard, frames_none, heard_nothing, responses_at}
 use Rattle.gw_readers.proofs.outstation_reading.Reading.take_frame.Goals as goal
 
 pub returns-clause-confirmed : goal.returns-clause-confirmed
 returns-clause-confirmed g c =
-    reads_then _ _ _ _ _ _ _ _ _ c.in_default-answer_link.ensures.confirmed c.take_fragment.ensures.confirmed
+    reads_next g.L.Course.setup c.args.self.now.outstation c.answer_link.new.self.outstation c.args.self.now.pass
+    c.answer_link.new.self.pass c.take_fragment.new.self.pass c.args.self.now.front c.answer_link.new.self.front
+    c.take_fragment.new.self.front _ c.answer_link.ensures.outstation c.in_default-answer_link.ensures.confirmed
+    c.take_fragment.ensures.confirmed
 
 pub returns-in_default-clause-heard : goal.returns-in_default-clause-heard
 returns-in_default-clause-heard g c =
