@@ -50,7 +50,8 @@ def write_settings(outstation, station):
     """Writes the settings of the first example with these places; gives the name of the file."""
     text = (ROOT / "examples/first.toml").read_text()
     text = text.replace("[station]", f'[station]\nlisten = "{station}"', 1)
-    text = text.replace("[[outstation]]", f'[[outstation]]\nconnect = "{outstation}"', 1)
+    # An event that waits for a poll is told within half a second.
+    text = text.replace("[[outstation]]", f'[[outstation]]\nconnect = "{outstation}"\npoll_ms = 500', 1)
     folder = Path(tempfile.mkdtemp(prefix="gateway-demo-"))
     (folder / "settings.toml").write_text(text)
     return folder / "settings.toml"
