@@ -3,8 +3,8 @@
 
 Its points are those of examples/first.toml: binary input 5 is the breaker (1 is closed), analog input 0 the current in
 amperes, counter 0 how often the breaker has moved. Binary output 3 closes and opens it, analog output 4 sets the
-current of the closed breaker. Two seconds after a master has connected the breaker moves, and then every five seconds, until
-the master operates it; each move is an event of all three points, which is kept until the master confirms it. The outstation
+current of the closed breaker. Once a master has connected the breaker moves every five seconds, until the master
+operates it; each move is an event of all three points, which is kept until the master confirms it. The outstation
 listens on 127.0.0.1, for one master at a time, and prints what the master asks for; polls that find no event aren't
 printed. Times are in UTC. Ctrl-C ends it. (simulate.py plays the outstations of any settings file.)
 """
@@ -17,8 +17,8 @@ from contextlib import suppress
 from dnp3_outstation import NOT_SUPPORTED, SUCCESS, Outstation, Point, tell
 from dnp3_server import TICK, Server, why_not
 
-# The link address; seconds from the connection to the first move, and from each to the next; the outputs, as group and index.
-ADDRESS, FIRST, REST = 1, 2, 5
+# The link address; seconds from a move to the next; the outputs, as group and index.
+ADDRESS, REST = 1, 5
 SWITCH, SETTING = (12, 3), (41, 4)
 
 
@@ -52,7 +52,7 @@ class Breaker:
         self.outstation.change(self.moves, self.moves.value + has_moved)
 
 
-async def serve(port):
+async def serve(port, first):
     breaker = Breaker()
     server = Server(breaker.outstation, port)
     try:
@@ -65,7 +65,7 @@ async def serve(port):
         await asyncio.sleep(TICK)
         now = time.monotonic()
         if server.has_begun and next_move is None:
-            next_move = now + FIRST
+            next_move = now + first
         if next_move is not None and now >= next_move and not breaker.is_operated:
             next_move += REST
             breaker.move(not breaker.position.value)
@@ -75,10 +75,12 @@ async def serve(port):
 def main():
     parser = argparse.ArgumentParser(description=__doc__, formatter_class=argparse.RawDescriptionHelpFormatter)
     parser.add_argument("port", nargs="?", type=int, default=20000, help="where it listens; 20000 by default")
-    port = parser.parse_args().port
-    if port not in range(1, 65536):
-        parser.error(f"{port} is no port: 1 to 65535")
-    asyncio.run(serve(port))
+    parser.add_argument("--first", type=float, default=REST, metavar="N",
+                        help=f"seconds from the connection to the first move; {REST} by default")
+    words = parser.parse_args()
+    if words.port not in range(1, 65536):
+        parser.error(f"{words.port} is no port: 1 to 65535")
+    asyncio.run(serve(words.port, words.first))
 
 
 if __name__ == "__main__":

@@ -117,7 +117,8 @@ def play(show, program, seconds):
     outstation, station, status = free_places(3)
     settings = write_settings(outstation, station)
     tell("demo", f"settings: {settings}; status page: http://{status}/")
-    show.start("outstation", [sys.executable, "-Bu", ROOT / "examples/outstation.py", outstation.rpartition(":")[2]])
+    port = outstation.rpartition(":")[2]
+    show.start("outstation", [sys.executable, "-Bu", ROOT / "examples/outstation.py", port, "--first", "2"])
     if not show.wait_for("outstation", "listens"):
         return
     show.start("gateway", [program, "run", settings, "--status", status])
