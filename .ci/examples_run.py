@@ -1,5 +1,5 @@
 #!/usr/bin/env -S python3 -B
-"""Runs each command of README.md, SETTINGS, REPLAY and OPERATE of docs/, and compares what it writes with the document.
+"""Runs each command of README.md, SETTINGS, REPLAY, OPERATE and COMMISSIONING of docs/, and compares what it writes with the document.
 
 A command is a line `$ COMMAND` that is indented by four spaces. What it writes, on both streams, stands below it, up to
 an empty line or the next command. What varies from run to run is masked on both sides: times, the ports that the system
@@ -24,14 +24,14 @@ from contextlib import suppress
 from pathlib import Path
 
 ROOT = Path(__file__).resolve().parent.parent
-DOCUMENTS = ("README.md", "docs/SETTINGS.md", "docs/REPLAY.md", "docs/OPERATE.md")
+DOCUMENTS = ("README.md", "docs/SETTINGS.md", "docs/REPLAY.md", "docs/OPERATE.md", "docs/COMMISSIONING.md")
 # Dates and times, ports that the system gives, digests, which a document may cut short by `..`, counts of steps.
 VARIES = re.compile(r"\d{4}-\d\d-\d\d|\d\d:\d\d:\d\d(\.\d{3})?|(?<=127\.0\.0\.1:)[3-6]\d{4}"
                     r"|(?<=SHA-256 )[0-9a-f]+(\.\.)?|(?<=^steps )\d+")
 # How many seconds a command has until it ends, or has written what stands in the document; and the pause behind the
 # first line of one that goes on.
 LIMIT, PAUSE = 15, 1
-PORTS = (2404, 8080, 20000)
+PORTS = (2404, 8080, 20000, 20001)
 PASSED_OVER = re.compile(r"gateway: this program isn't proved|\S+Z the host stood still for ")
 
 

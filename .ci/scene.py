@@ -204,7 +204,7 @@ class Scene:
         self.process = self.witness = None
         self.notes, self.noted, self.passed_over = [], threading.Condition(), f"{TRANSFERS}|{COUNTS}"
         self.is_made_to_stand = False
-        self.file = tempfile.NamedTemporaryFile("w", suffix=".toml")
+        self.file, self.list = tempfile.NamedTemporaryFile("w", suffix=".toml"), None
         SCENES.append(self)
 
     def bend(self, now=None):
@@ -238,6 +238,13 @@ class Scene:
         self.file.flush()
         return self.file.name
 
+    def named(self, text):
+        """The words by which the gateway is started with the names of a list."""
+        self.list = tempfile.NamedTemporaryFile("w", suffix=".csv")
+        self.list.write(text)
+        self.list.flush()
+        return ["--names", self.list.name]
+
     def run(self, file, *options, **more):
         command = [*self.words, "run", file, *options]
         pipes = dict.fromkeys(("stdin", "stdout", "stderr"), subprocess.PIPE)
@@ -249,7 +256,7 @@ class Scene:
         points = list(POINTS)
         if status:
             self.status = free_place()
-            options = ["--status", self.status]
+            options = [*options, "--status", self.status]
         if witness:
             feeder = self.outstation()
             points.append(point(len(self.outstations) - 1, "analog", 9, WITNESSED) | dict(show="word"))
@@ -286,7 +293,9 @@ class Scene:
         match = NOTE.fullmatch(line)
         if not match:
             return f"no line: {line!r}", 0
-        at, priority = datetime.fromisoformat(match[2] + "+00:00").timestamp(), priority_of(match[3])
+        # A name stands behind a line, two spaces apart.
+        what = match[3].split("  ")[0] if self.list else match[3]
+        at, priority = datetime.fromisoformat(match[2] + "+00:00").timestamp(), priority_of(what)
         if not self.is_now(at):
             return f"no line of now: {line!r}", 0
         if match[1] != (f"<{priority}>" if self.in_journal else None):
@@ -464,6 +473,8 @@ class Scene:
         if self.clock:
             self.clock.file.close()
         self.file.close()
+        if self.list:
+            self.list.close()
 
 # The cases, those that are run when no other one is, and what was set up for them.
 CASES, ALONE, SCENES = [], [], []

@@ -9,7 +9,7 @@ from peers import (
     i_format, latch, response, same, unsolicited,
 )
 from scene import (
-    BINARY_ON, CONTROLS, DOUBLE, LOOK, OFF_COMMAND, TROUBLES, VERSION, answered, case, inputs,
+    BINARY_ON, CONTROLS, DOUBLE, LOOK, OFF_COMMAND, OFF_GIVEN, OFF_WORDS, SWITCH, TROUBLES, VERSION, answered, case, inputs,
 )
 
 # ---- requests to the status
@@ -384,6 +384,41 @@ def page_of_a_gateway_that_is_well(scene):
         same("the title of the page", re.findall("<title>(.*)</title>", page), ["All is well - gateway"])
         runs = re.findall(r"The gateway runs for (.*), since (.*)\.</p>", page)
         same("for how long the gateway runs", runs, [(words, "2023-11-14T22:13:20Z")])
+
+
+NAMES = "name,outstation,kind,index,address\n<Bay> \\1,0,outstation,,\nQ0,0,control,6,5003\nQ0 closed,0,binary,5,4101\n"
+BAY = "  <Bay> \\1"
+
+
+@case
+def names_of_a_list(scene):
+    """the names of a list, behind what is told of an outstation and of a control, on the page, and in the figures"""
+    scene.passed_over += f"|outstation 0 .* not connected: .*{re.escape(BAY)}"
+    outstation = scene.outstation()
+    scene.start(status=True, controls=CONTROLS, options=scene.named(NAMES))
+    link = scene.accept(outstation, is_told=False)
+    scene.told(f"{outstation.name} connected{BAY}")
+    link.send(response(0))
+    centre = scene.started()
+    centre.ask(OFF_COMMAND)
+    words = f"{OFF_WORDS}, originator 0, station 1"
+    scene.told(f"{centre.name} asks: {words}: order 1  Q0")
+    link.operated(1, DIRECT_OPERATE, latch(6, False))
+    scene.told(f"{outstation.name} order 1 given: {OFF_GIVEN}{BAY}")
+    scene.told(f"{outstation.name} order 1 done{BAY}")
+    for cause, what in ((CONFIRMATION, "confirmed"), (TERMINATION, "terminated")):
+        centre.takes(asdu(46, cause, DOUBLE, "01"))
+        scene.told(f"{centre.name} told: {words}: {what}  Q0")
+    # A control that has no name.
+    scene.asks(centre, asdu(45, ACTIVATION, SWITCH, "80"), "single command 5001 off, QU 0, select")
+    scene.answers(centre, "single command 5001 off, QU 0, select", (asdu(45, CONFIRMATION, SWITCH, "80"), "confirmed"))
+    scene.has_figures(f'{outstation.labels},name="<Bay> \\\\1"', outstation_orders_total=1)
+    page = shown_at(scene, "/")
+    wanted = f"&lt;Bay&gt; \\1 <small>{outstation.place}</small>"
+    same("the outstation on the page", re.findall("<i>0</i> (.*?)</th><td data-column=State>connected", page), [wanted])
+    outstation.listener.close()
+    link.connection.close()
+    scene.lost(outstation, f"lost: end of input{BAY}")
 
 
 # The indications that tell of trouble.

@@ -1,6 +1,6 @@
 //! What `gateway check` writes of settings.
 
-use gw_profile::{Settings, write_listing, write_profile};
+use gw_profile::{Names, Settings, write_listing, write_profile};
 use std::io::{self, Write};
 
 /// What is written of settings that are accepted.
@@ -13,11 +13,16 @@ pub enum CheckReport {
 }
 
 impl CheckReport {
-    /// Writes it.
-    pub fn write<W: Write>(self, settings: &Settings, writer: &mut W) -> io::Result<()> {
+    /// Writes it, with names behind the lines of what they are of.
+    pub fn write<W: Write>(
+        self,
+        settings: &Settings,
+        names: &Names,
+        writer: &mut W,
+    ) -> io::Result<()> {
         match self {
-            CheckReport::Listing => write_listing(settings, writer),
-            CheckReport::Profile => write_profile(settings, writer),
+            CheckReport::Listing => write_listing(settings, names, writer),
+            CheckReport::Profile => write_profile(settings, names, writer),
         }
     }
 }

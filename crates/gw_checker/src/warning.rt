@@ -1,6 +1,6 @@
 //! What reads like a slip in settings that are accepted, in a sentence for a person.
 
-use gw_profile::Plain;
+use gw_profile::{Names, Plain, Settings};
 use std::fmt;
 
 /// Something in accepted settings that reads like a slip. Outstations and controls go by their positions in the file.
@@ -98,6 +98,17 @@ pub enum Warning<'a> {
     },
 }
 
+/// What a warning is of.
+#[derive(Clone, Copy)]
+enum Entry {
+    /// The station.
+    Station,
+    /// The outstation at a position.
+    Outstation(u8),
+    /// The control at one.
+    Control(usize),
+}
+
 impl<'a> fmt::Display for Warning<'a> {
     fn fmt<W: fmt::Write>(&self, f: &mut fmt::Formatter<W>) -> fmt::Result {
         self.write_entry(f)?;
@@ -107,14 +118,14 @@ impl<'a> fmt::Display for Warning<'a> {
 }
 
 impl<'a> Warning<'a> {
-    /// Writes the section, and the position of the entry in it.
-    fn write_entry<W: fmt::Write>(&self, f: &mut fmt::Formatter<W>) -> fmt::Result {
+    /// What it is of.
+    fn entry(&self) -> Entry {
         match self {
             Warning::ListenWithoutPort { .. }
             | Warning::ListenEverywhere { .. }
             | Warning::WideWindow { .. }
             | Warning::RuleOfAnotherZone { .. }
-            | Warning::OddSummer { .. } => f.write_str("station"),
+            | Warning::OddSummer { .. } => Entry::Station,
             Warning::ConnectWithoutPort { outstation, .. }
             | Warning::SlowPoll { outstation, .. }
             | Warning::ShortResponse { outstation, .. }
@@ -126,8 +137,31 @@ impl<'a> Warning<'a> {
             | Warning::SharedConnect {
                 second: outstation,
                 ..
-            } => write_numbered(f, "outstation", usize::from(*outstation)),
-            Warning::SameOutput { second, .. } => write_numbered(f, "control", *second),
+            } => Entry::Outstation(*outstation),
+            Warning::SameOutput { second, .. } => Entry::Control(*second),
+        }
+    }
+
+    /// What the entry is called, if it has a name.
+    pub(crate) fn name<'b>(&self, settings: &Settings, names: &'b Names) -> Option<&'b str> {
+        match self.entry() {
+            Entry::Station => None,
+            Entry::Outstation(outstation) => names.of_outstation(outstation),
+            Entry::Control(position) => {
+                let control = settings.controls().get(position)?;
+                names.of_object(control.common_address, control.address)
+            }
+        }
+    }
+
+    /// Writes the section, and the position of the entry in it.
+    fn write_entry<W: fmt::Write>(&self, f: &mut fmt::Formatter<W>) -> fmt::Result {
+        match self.entry() {
+            Entry::Station => f.write_str("station"),
+            Entry::Outstation(outstation) => {
+                write_numbered(f, "outstation", usize::from(outstation))
+            }
+            Entry::Control(position) => write_numbered(f, "control", position),
         }
     }
 

@@ -2,7 +2,9 @@
 
 use crate::packing::{PointPlace, count_asdus};
 use crate::warning::Warning;
-use gw_profile::{ClockRule, Control, Operates, Outstation, Poll, Row, Settings, Station};
+use gw_profile::{
+    Behind, ClockRule, Control, Names, Operates, Outstation, Poll, Row, Settings, Station,
+};
 use indexmap::IndexMap;
 use std::alloc::{AllocError, Global};
 use std::io::{self, Write};
@@ -52,21 +54,23 @@ pub fn warnings_of<'a>(
     Ok(found)
 }
 
-/// Writes a line for each thing that reads like a slip in settings.
+/// Writes a line for each thing that reads like a slip in settings, with the name of what it is of behind it.
 pub fn write_warnings<W: Write>(
     alloc: Global,
     settings: &Settings,
+    names: &Names,
     writer: &mut W,
 ) -> io::Result<()> {
     let warnings = warnings_of(alloc, settings)?;
-    write_lines(&warnings, writer)
-}
-
-fn write_lines<W: Write>(warnings: &[Warning], writer: &mut W) -> io::Result<()> {
-    for warning in warnings {
-        writeln!(writer, "warning: {warning}")?;
+    for warning in &warnings {
+        let name = Behind(warning.name(settings, names));
+        write_line(warning, name, writer)?;
     }
     Ok(())
+}
+
+fn write_line<W: Write>(warning: &Warning<'_>, name: Behind<'_>, writer: &mut W) -> io::Result<()> {
+    writeln!(writer, "warning: {warning}{name}")
 }
 
 /// Adds something that reads like a slip.

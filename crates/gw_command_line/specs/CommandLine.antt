@@ -12,7 +12,7 @@ use Rattle.clap.specs.declared.error.Error.{Error}
 use Rattle.clap.specs.declared.error.kind.ErrorKind.{ErrorKind}
 use Rattle.clap.specs.declared.error.kind.ErrorKind.TheVariants.{OutOfMemory}
 use Rattle.gw_command_line.specs.declared.reading.Asked.{Asked}
-use Rattle.gw_command_line.specs.declared.reading.Asked.TheVariants.{Check, Translate, Replay, Run}
+use Rattle.gw_command_line.specs.declared.reading.Asked.TheVariants.{Check, Points, Translate, Replay, Run}
 use Rattle.gw_command_line.specs.declared.reading.RunOptions.{RunOptions}
 use Rattle.gw_command_line.specs.declared.reading.LineFault.{LineFault}
 use Rattle.gw_command_line.specs.declared.reading.LineFault.TheVariants.{Clap, Memory}
@@ -43,9 +43,15 @@ flag_rule name = record (new_rule name) { long = Some name; action = Some SetTru
 abbrev pub file_app : Text → App
 file_app name = with_rule (new_app name) file_rule
 
--- `gateway check FILE [--profile]`
+-- `gateway check FILE [--profile] [--names FILE]`
 abbrev pub check : App
-check = with_rule (file_app (codes "check")) (flag_rule (codes "profile"))
+check = fold with_rule (file_app (codes "check")) (flag_rule (codes "profile") ∷ text_rule (codes "names") ∷ [])
+
+-- `gateway points FILE [--site FILE] [--csv] [--names FILE]`
+abbrev pub points : App
+points =
+    fold with_rule (file_app (codes "points"))
+    (text_rule (codes "site") ∷ flag_rule (codes "csv") ∷ text_rule (codes "names") ∷ [])
 
 -- `gateway translate [--settings FILE]`
 abbrev pub translate : App
@@ -61,11 +67,12 @@ serve =
     fold with_rule (file_app (codes "run"))
     (number_rule (codes "sessions") ∷ texts_rule (codes "allow") ∷ flag_rule (codes "until-eof") ∷ [])
 
--- the same with `[--status ADDRESS:PORT] [--record FILE] [--record-size MB]`
+-- the same with `[--status ADDRESS:PORT] [--record FILE] [--record-size MB] [--names FILE]`
 abbrev pub run : App
 run =
     fold with_rule serve
-    (text_rule (codes "status") ∷ text_rule (codes "record") ∷ number_rule (codes "record-size") ∷ [])
+    (text_rule (codes "status") ∷ text_rule (codes "record") ∷ number_rule (codes "record-size")
+    ∷ text_rule (codes "names") ∷ [])
 
 -- the program: a subcommand has to be named, and it has a version
 abbrev pub alone : App
@@ -73,8 +80,9 @@ alone = on_top (λ top. record top { subcommand_required = true; has_version = t
 
 abbrev pub gateway : App
 gateway =
-    with_subcommand (with_subcommand (with_subcommand (with_subcommand alone check.top) translate.top) replay.top)
-    run.top
+    with_subcommand
+    (with_subcommand
+    (with_subcommand (with_subcommand (with_subcommand alone check.top) points.top) translate.top) replay.top) run.top
 
 -- ---- what it asks for
 
@@ -85,11 +93,12 @@ pub record Options : Type 0 where
   pub status : Option Text
   pub «record» : Option Text
   pub record_size : ℕ
+  pub names : Option Text
 
 -- the same where none of them is used
 abbrev pub no_options : Options
 no_options =
-    record { allow = []; until_eof = false; status = None; «record» = None; record_size = 256 }
+    record { allow = []; until_eof = false; status = None; «record» = None; record_size = 256; names = None }
 
 abbrev pub options_of : RunOptions → Options
 options_of options = record {
@@ -98,17 +107,21 @@ options_of options = record {
   status = option_map (λ address. address.now) options.status;
   «record» = option_map (λ file. file.now) options.record;
   record_size = options.record_size;
+  names = option_map (λ list. list.now) options.names;
 }
 
--- what is asked for, with the words that name files and addresses, and whether the profile is
+-- what is asked for, with the words that name files and addresses, whether the profile is, and whether a list is
 pub data Request : Type 0 where
-  to_check : Text → Bool → Request
+  to_check : Text → Bool → Option Text → Request
+  to_points : Text → Option Text → Bool → Option Text → Request
   to_translate : Option Text → Request
   to_replay : Text → Request
   to_run : Text → Option ℕ → Options → Request
 
 abbrev pub request_of : Asked → Request
-request_of (Check file profile) = to_check file.now profile
+request_of (Check file profile names) = to_check file.now profile (option_map (λ list. list.now) names)
+request_of (Points file site csv names) =
+    to_points file.now (option_map (λ settings. settings.now) site) csv (option_map (λ list. list.now) names)
 request_of (Translate settings) = to_translate (option_map (λ file. file.now) settings)
 request_of (Replay file) = to_replay file.now
 request_of (Run file sessions options) = to_run file.now sessions (options_of options)
@@ -148,15 +161,24 @@ options_in rows = record {
   status = first_of (codes "status") rows;
   «record» = first_of (codes "record") rows;
   record_size = unwrap_or (number_in (codes "record-size") rows) 256;
+  names = first_of (codes "names") rows;
 }
 
 abbrev pub run_in : List Row → Request
 run_in rows = to_run (file_in rows) (number_in (codes "sessions") rows) (options_in rows)
 
+abbrev pub check_in : List Row → Request
+check_in rows = to_check (file_in rows) (is_used (codes "profile") rows) (first_of (codes "names") rows)
+
+abbrev pub points_in : List Row → Request
+points_in rows =
+    to_points (file_in rows) (first_of (codes "site") rows) (is_used (codes "csv") rows) (first_of (codes "names") rows)
+
 -- what a subcommand asks for, by its name and what was found for its arguments
 abbrev pub asked_as : Text → List Row → Option Request
 asked_as name rows =
-    if bytes_eq name (codes "check") then Some (to_check (file_in rows) (is_used (codes "profile") rows))
+    if bytes_eq name (codes "check") then Some (check_in rows)
+    else if bytes_eq name (codes "points") then Some (points_in rows)
     else if bytes_eq name (codes "translate") then Some (to_translate (first_of (codes "settings") rows))
     else if bytes_eq name (codes "replay") then Some (to_replay (file_in rows))
     else if bytes_eq name (codes "run") then Some (run_in rows)

@@ -7,7 +7,7 @@ ghost use Rattle.std.specs.Prelude.{◌≡◌, [], IfErr, IfOk, Some, false, map
 ghost use Rattle.clap.specs.Words.{App, Rule, app_of, fault_of, first_of, found_of, rows_of, rule_of, subcommand_rows_of, with_rule, with_subcommand};
 ghost use Rattle.clap.specs.Walk.{texts};
 ghost use Rattle.clap.specs.declared.builder.command.Command.TheViews.{out-Command as fields_of};
-ghost use Rattle.gw_command_line.specs.CommandLine.{IsRefusal, alone, as_fault, asked_of, check, file_app, file_in, file_rule, flag_rule, gateway, is_used, number_from, number_in, number_of, number_rule, options_in, options_of, request_of, run, run_in, serve, spelled, text_rule, texts_in, texts_rule, translate};
+ghost use Rattle.gw_command_line.specs.CommandLine.{IsRefusal, alone, as_fault, asked_of, check, check_in, file_app, file_in, file_rule, flag_rule, gateway, is_used, number_from, number_in, number_of, number_rule, options_in, options_of, points, points_in, request_of, run, run_in, serve, spelled, text_rule, texts_in, texts_rule, translate};
 ghost use Rattle.gw_command_line.specs.declared.reading.LineFault.TheVariants.{Memory};
 
 use clap::error::ErrorKind;
@@ -29,11 +29,21 @@ const DEFAULT_RECORD_SIZE: u32 = 256;
 /// What a command line asks for.
 #[derive(Drop)]
 pub enum Asked<'a> {
-    /// `gateway check FILE [--profile]`: tells what a settings file means, or what is wrong with it; with `--profile`
-    /// as the interoperability list and the signals of the station.
+    /// `gateway check FILE [--profile] [--names FILE]`: tells what a settings file means, or what is wrong with it; with
+    /// `--profile` as the interoperability list and the signals of the station, and with `--names` with the names of a
+    /// list.
     Check {
         file: &'a str,
         profile: bool,
+        names: Option<&'a str>,
+    },
+    /// `gateway points FILE --site FILE`: writes the settings of a list, for the station and the outstations of a
+    /// settings file. `gateway points --csv FILE [--names FILE]`: writes the list of a settings file.
+    Points {
+        file: &'a str,
+        site: Option<&'a str>,
+        csv: bool,
+        names: Option<&'a str>,
     },
     /// `gateway translate [--settings FILE]`: reads DNP3 fragments in hexadecimal, one a line, and
     /// writes what they bring as ASDUs.
@@ -67,6 +77,8 @@ pub struct RunOptions<'a> {
     pub record: Option<&'a str>,
     /// `--record-size MB`: the most megabytes that this file may have.
     pub record_size: u32,
+    /// `--names FILE`: the list whose names stand behind lines of the log, and on the status page.
+    pub names: Option<&'a str>,
 }
 
 /// Why a command line asks for nothing.
@@ -134,6 +146,7 @@ fn gateway_command<'a>(alloc: Global) -> Result<Command<'a>, AllocError>
         "Makes steps of the core, and writes its replies",
     );
     let program = with_subcommand(Ok(gateway_alone(alloc)), check_command(alloc));
+    let program = with_subcommand(program, points_command(alloc));
     let program = with_subcommand(program, translate_command(alloc));
     let program = with_subcommand(program, replay);
     with_subcommand(program, run_command(alloc))
@@ -167,14 +180,27 @@ fn with_argument<'a>(
     command?.arg(argument)
 }
 
-/// `gateway NAME FILE`.
+/// `gateway NAME FILE`, of a settings file.
 fn file_command<'a>(alloc: Global, name: &'a str, about: &'a str) -> Result<Command<'a>, AllocError>
+    ensures app { IfOk result (λ command. app_of command ≡ file_app name.now) }
+    ensures local { IfOk result (λ command. (fields_of command).has_globals ≡ false) }
+{
+    named_command(alloc, name, about, "The settings file")
+}
+
+/// `gateway NAME FILE`, with what the file is.
+fn named_command<'a>(
+    alloc: Global,
+    name: &'a str,
+    about: &'a str,
+    file: &'a str,
+) -> Result<Command<'a>, AllocError>
     ensures app { IfOk result (λ command. app_of command ≡ file_app name.now) }
     ensures local { IfOk result (λ command. (fields_of command).has_globals ≡ false) }
 {
     Command::new(alloc, name)
         .about(about)
-        .arg(file_argument(alloc))
+        .arg(file_argument(alloc, file))
 }
 
 /// `gateway check`.
@@ -187,12 +213,38 @@ fn check_command<'a>(alloc: Global) -> Result<Command<'a>, AllocError>
         "profile",
         "Writes the interoperability list of the station and its signals instead",
     );
+    let names = text_argument(alloc, "names", "FILE", "The list with the names to write");
     let command = file_command(
         alloc,
         "check",
         "Tells what a settings file means, or what is wrong with it",
     );
-    with_argument(command, profile)
+    let command = with_argument(command, profile);
+    with_argument(command, names)
+}
+
+/// `gateway points`.
+fn points_command<'a>(alloc: Global) -> Result<Command<'a>, AllocError>
+    ensures app { IfOk result (λ command. app_of command ≡ points) }
+    ensures local { IfOk result (λ command. (fields_of command).has_globals ≡ false) }
+{
+    let site = text_argument(
+        alloc,
+        "site",
+        "FILE",
+        "The settings file with the station and the outstations of the list",
+    );
+    let csv = flag_argument(alloc, "csv", "Writes the list of a settings file instead");
+    let names = text_argument(alloc, "names", "FILE", "The list with the names to write");
+    let command = named_command(
+        alloc,
+        "points",
+        "Writes the settings of a list of points and controls in CSV",
+        "The list, or with --csv the settings file",
+    );
+    let command = with_argument(command, site);
+    let command = with_argument(command, csv);
+    with_argument(command, names)
 }
 
 /// `gateway translate`.
@@ -256,18 +308,20 @@ fn run_command<'a>(alloc: Global) -> Result<Command<'a>, AllocError>
         "MB",
         "The most megabytes that the file of --record may have, 1 to 1000000; 256 where none are said",
     );
+    let names = text_argument(alloc, "names", "FILE", "The list with the names to tell");
     let command = with_argument(serve_command(alloc), status);
     let command = with_argument(command, record);
-    with_argument(command, record_size)
+    let command = with_argument(command, record_size);
+    with_argument(command, names)
 }
 
-/// The settings file that has to be named.
-fn file_argument<'a>(alloc: Global) -> Arg<'a>
+/// The file that has to be named, with what it is.
+fn file_argument<'a>(alloc: Global, help: &'a str) -> Arg<'a>
     ensures rule { rule_of result ≡ file_rule }
     ensures local { result.global ≡ false }
 {
     Arg::new(alloc, "file")
-        .help("The settings file")
+        .help(help)
         .value_name("FILE")
         .required(true)
         .action(ArgAction::Set)
@@ -393,7 +447,31 @@ fn options_named<'a>(alloc: Global, matches: &ArgMatches<'a>) -> Result<RunOptio
         status: text_named(matches, "status"),
         record: text_named(matches, "record"),
         record_size: number_named(matches, "record-size").unwrap_or(DEFAULT_RECORD_SIZE),
+        names: text_named(matches, "names"),
     })
+}
+
+/// What `gateway check` asks for.
+fn check_named<'a>(matches: &ArgMatches<'a>) -> Asked<'a>
+    ensures { request_of result ≡ check_in (rows_of (found_of matches.now)) }
+{
+    Asked::Check {
+        file: file_named(matches),
+        profile: flag_named(matches, "profile"),
+        names: text_named(matches, "names"),
+    }
+}
+
+/// What `gateway points` asks for.
+fn points_named<'a>(matches: &ArgMatches<'a>) -> Asked<'a>
+    ensures { request_of result ≡ points_in (rows_of (found_of matches.now)) }
+{
+    Asked::Points {
+        file: file_named(matches),
+        site: text_named(matches, "site"),
+        csv: flag_named(matches, "csv"),
+        names: text_named(matches, "names"),
+    }
 }
 
 /// What `gateway run` asks for.
@@ -415,10 +493,8 @@ fn asked_by<'a>(alloc: Global, matches: &ArgMatches<'a>) -> Result<Option<Asked<
         return Ok(None);
     };
     match name {
-        "check" => Ok(Some(Asked::Check {
-            file: file_named(found),
-            profile: flag_named(found, "profile"),
-        })),
+        "check" => Ok(Some(check_named(found))),
+        "points" => Ok(Some(points_named(found))),
         "translate" => Ok(Some(Asked::Translate {
             settings: text_named(found, "settings"),
         })),

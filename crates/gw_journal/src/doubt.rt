@@ -16,3 +16,13 @@ pub enum Doubt {
         second: u8,
     },
 }
+
+impl Doubt {
+    /// The outstation that it is of, the later one of two.
+    pub(crate) fn outstation(self) -> u8 {
+        match self {
+            Doubt::ConnectWithoutPort { outstation } => outstation,
+            Doubt::SamePlace { second, .. } => second,
+        }
+    }
+}

@@ -7,6 +7,7 @@ use crate::loss::Loss;
 use crate::stray::StrayFrames;
 use crate::unknown_asdu::UnknownAsdus;
 use crate::unreadable::Unreadable;
+use gw_names::Names;
 use gw_text::RecordEnd;
 use iec_command::Command;
 use std::net::{IpAddr, SocketAddr};
@@ -314,6 +315,20 @@ impl JournalEvent {
                 ..
             } => Subject::Client(*client, *address),
             _ => Subject::Gateway,
+        }
+    }
+
+    /// What the outstation or the control that it is of is called, if that has a name.
+    pub(crate) fn name<'a>(&self, names: &'a Names) -> Option<&'a str> {
+        match self {
+            JournalEvent::Command { command, .. } => {
+                names.of_object(command.common_address, command.address)
+            }
+            JournalEvent::Doubtful(doubt) => names.of_outstation(doubt.outstation()),
+            other => match other.subject() {
+                Subject::Outstation(outstation) => names.of_outstation(outstation),
+                Subject::Gateway | Subject::Client(..) => None,
+            },
         }
     }
 

@@ -5,6 +5,7 @@ use crate::note_line::{Note, NoteLine};
 use crate::waiting::{Next, WaitingNotes};
 use gw_bell::Bell;
 use gw_model::Memory;
+use gw_names::Names;
 use std::alloc::Global;
 use std::sync::{Mutex, Wait};
 
@@ -18,6 +19,8 @@ pub struct Journal {
     places: Vec<String>,
     /// Whether each line has its priority in front.
     with_priority: bool,
+    /// What stands behind the lines of what has a name.
+    names: Names,
 }
 
 impl Journal {
@@ -29,7 +32,20 @@ impl Journal {
             bell: Bell::new(),
             places,
             with_priority,
+            names: Names::new(alloc),
         })
+    }
+
+    /// The same, with names behind the lines of what has one.
+    pub fn with_names(self, names: Names) -> Journal {
+        let mut named = self;
+        named.names = names;
+        named
+    }
+
+    /// What an outstation is called, if it has a name.
+    pub fn name_of(&self, outstation: u8) -> Option<&str> {
+        self.names.of_outstation(outstation)
     }
 
     /// Tells what happened, and when, in milliseconds since 1970 in UTC.
@@ -67,6 +83,7 @@ impl Journal {
             note,
             places: &self.places,
             with_priority: self.with_priority,
+            names: &self.names,
         };
         let _ = eprintln!(rt; "{line}");
     }

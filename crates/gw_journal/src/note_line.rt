@@ -9,6 +9,7 @@ use crate::failure::Failure;
 use crate::instant::Instant;
 use crate::reason::{Reason, ReasonWords};
 use crate::unreadable::Unreadable;
+use gw_names::{Behind, Names};
 use gw_text::Plain;
 use iec_command::Command;
 use std::fmt;
@@ -23,7 +24,7 @@ pub struct Note {
     pub event: JournalEvent,
 }
 
-/// A note as a line: when, whom it is of, and what happened, in words.
+/// A note as a line: when, whom it is of, and what happened, in words; and the name of what it is of, if that has one.
 #[derive(Clone, Copy)]
 pub struct NoteLine<'a> {
     /// The note.
@@ -32,6 +33,8 @@ pub struct NoteLine<'a> {
     pub places: &'a [String],
     /// Whether the priority stands in front, as journald reads it.
     pub with_priority: bool,
+    /// The names.
+    pub names: &'a Names,
 }
 
 /// Octets in hexadecimal, two digits for each.
@@ -53,6 +56,7 @@ impl<'a> fmt::Display for NoteLine<'a> {
             note,
             places,
             with_priority,
+            names,
         } = *self;
         let priority = InFront(if with_priority {
             Some(note.event.priority())
@@ -64,7 +68,8 @@ impl<'a> fmt::Display for NoteLine<'a> {
             event: &note.event,
             places,
         };
-        write!(f, "{priority}{instant} {happened}")
+        let name = Behind(note.event.name(names));
+        write!(f, "{priority}{instant} {happened}{name}")
     }
 }
 

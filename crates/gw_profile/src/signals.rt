@@ -1,46 +1,56 @@
 //! The signals of the station: its outstations, and a line for each point and each control.
 
-use crate::listing::mode_word;
 use crate::types::{PointTypes, command_type, point_types};
+use crate::words::mode_word;
 use gw_map::{Control, Operates, Outstation, Pulses, Rest, Row, Scale, Settings, Show};
 use gw_model::{Kind, PointKey};
+use gw_names::{Behind, Names};
 use gw_text::Plain;
 use std::fmt;
 use std::io::{self, Write};
 
 /// Writes the outstations, the points and the controls, in the order of the file.
-pub(crate) fn write_signals<W: Write>(settings: &Settings, writer: &mut W) -> io::Result<()> {
-    write_outstations(settings.outstations(), writer)?;
-    write_points(settings.rows(), writer)?;
-    write_controls(settings.controls(), writer)
+pub(crate) fn write_signals<W: Write>(
+    settings: &Settings,
+    names: &Names,
+    writer: &mut W,
+) -> io::Result<()> {
+    write_outstations(settings.outstations(), names, writer)?;
+    write_points(settings.rows(), names, writer)?;
+    write_controls(settings.controls(), names, writer)
 }
 
-fn write_outstations<W: Write>(outstations: &[Outstation], writer: &mut W) -> io::Result<()> {
+fn write_outstations<W: Write>(
+    outstations: &[Outstation],
+    names: &Names,
+    writer: &mut W,
+) -> io::Result<()> {
     let count = outstations.len();
     writeln!(
         writer,
         "\nOutstations (DNP3): {count}\noutstation  link address  common address  connection"
     )?;
-    for (position, outstation) in outstations.iter().enumerate() {
-        write_outstation(position, outstation, writer)?;
+    for (position, outstation) in (0u8..).zip(outstations) {
+        write_outstation(position, outstation, names.of_outstation(position), writer)?;
     }
     Ok(())
 }
 
 fn write_outstation<W: Write>(
-    position: usize,
+    position: u8,
     outstation: &Outstation,
+    name: Option<&str>,
     writer: &mut W,
 ) -> io::Result<()> {
     let (address, common_address) = (outstation.address, outstation.common_address);
-    let connect = Plain(outstation.connect.as_str());
+    let (connect, name) = (Plain(outstation.connect.as_str()), Behind(name));
     writeln!(
         writer,
-        "{position:>10}  {address:>12}  {common_address:>14}  {connect}"
+        "{position:>10}  {address:>12}  {common_address:>14}  {connect}{name}"
     )
 }
 
-fn write_points<W: Write>(rows: &[Row], writer: &mut W) -> io::Result<()> {
+fn write_points<W: Write>(rows: &[Row], names: &Names, writer: &mut W) -> io::Result<()> {
     let count = rows.len();
     writeln!(
         writer,
@@ -49,12 +59,16 @@ Signals in monitor direction: {count}
  address  without time  with time     outstation  DNP3 object            index  scaling"
     )?;
     for row in rows {
-        write_point(row, writer)?;
+        write_point(
+            row,
+            names.of_object(row.common_address, row.address),
+            writer,
+        )?;
     }
     Ok(())
 }
 
-fn write_point<W: Write>(row: &Row, writer: &mut W) -> io::Result<()> {
+fn write_point<W: Write>(row: &Row, name: Option<&str>, writer: &mut W) -> io::Result<()> {
     let PointKey {
         outstation,
         kind,
@@ -62,7 +76,7 @@ fn write_point<W: Write>(row: &Row, writer: &mut W) -> io::Result<()> {
     } = row.key;
     write_types(row.address, point_types(row.show), writer)?;
     write_object(outstation, object_words(kind), index, writer)?;
-    write_scaling(row.show, row.scale, writer)
+    write_scaling(row.show, row.scale, Behind(name), writer)
 }
 
 /// Writes where a point is shown, and by which types.
@@ -82,11 +96,17 @@ fn write_object<W: Write>(
 }
 
 /// Writes what a point's value is multiplied by, and the end of its line.
-fn write_scaling<W: Write>(show: Show, scale: Scale, writer: &mut W) -> io::Result<()> {
+fn write_scaling<W: Write>(
+    show: Show,
+    scale: Scale,
+    name: Behind<'_>,
+    writer: &mut W,
+) -> io::Result<()> {
     match show {
-        Show::Scaled => writeln!(writer, "{}", Factor(scale)),
-        Show::Single | Show::Double | Show::Word | Show::Total => writer.write_all(b"none\n"),
+        Show::Scaled => write!(writer, "{}", Factor(scale))?,
+        Show::Single | Show::Double | Show::Word | Show::Total => writer.write_all(b"none")?,
     }
+    writeln!(writer, "{name}")
 }
 
 /// What a kind of point is called in the object library of DNP3.
@@ -100,7 +120,7 @@ fn object_words(kind: Kind) -> &'static str {
     }
 }
 
-fn write_controls<W: Write>(controls: &[Control], writer: &mut W) -> io::Result<()> {
+fn write_controls<W: Write>(controls: &[Control], names: &Names, writer: &mut W) -> io::Result<()> {
     let count = controls.len();
     writeln!(
         writer,
@@ -109,17 +129,22 @@ Signals in control direction: {count}
  address  type          outstation  DNP3 object            index  select  operate  effect"
     )?;
     for control in controls {
-        write_control(control, writer)?;
+        let name = names.of_object(control.common_address, control.address);
+        write_control(control, name, writer)?;
     }
     Ok(())
 }
 
-fn write_control<W: Write>(control: &Control, writer: &mut W) -> io::Result<()> {
+fn write_control<W: Write>(
+    control: &Control,
+    name: Option<&str>,
+    writer: &mut W,
+) -> io::Result<()> {
     let (address, command) = (control.address, command_type(control.operates));
     let object = output_words(control.operates);
     write!(writer, "{address:>8}  {command:<12}  ")?;
     write_object(control.outstation, object, control.index, writer)?;
-    write_operation(control, writer)
+    write_operation(control, Behind(name), writer)
 }
 
 /// What an output is called in the object library of DNP3.
@@ -131,10 +156,14 @@ fn output_words(operates: Operates) -> &'static str {
 }
 
 /// Writes how an output is operated, and the end of its line.
-fn write_operation<W: Write>(control: &Control, writer: &mut W) -> io::Result<()> {
+fn write_operation<W: Write>(
+    control: &Control,
+    name: Behind<'_>,
+    writer: &mut W,
+) -> io::Result<()> {
     let select = if control.select { "yes" } else { "no" };
     let (mode, effect) = (mode_word(control.mode), Effect(control.operates));
-    writeln!(writer, "{select:<6}  {mode:<7}  {effect}")
+    writeln!(writer, "{select:<6}  {mode:<7}  {effect}{name}")
 }
 
 /// What a value is multiplied by, as a fraction.

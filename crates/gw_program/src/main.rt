@@ -2,12 +2,14 @@
 #![tactic(auto)]
 
 mod failure_of_file;
+mod lists;
 mod obstacle;
 mod recording;
 mod refusal;
 mod running;
 mod settings_file;
 
+use crate::lists::{Named, points, refuse_list};
 use crate::refusal::{REFUSED, refuse, refuse_file, refuse_for, refuse_octets};
 use crate::running::run;
 use crate::settings_file::{read_octets, settings_of};
@@ -56,14 +58,24 @@ fn program<
 /// Does what a command line asks for; gives the status.
 fn answer<H: Host>(rt: &HostRuntime, host: &H, asked: Asked) -> io::Result<u8> {
     match asked {
-        Asked::Check { file, profile } => {
+        Asked::Check {
+            file,
+            profile,
+            names,
+        } => {
             let report = if profile {
                 CheckReport::Profile
             } else {
                 CheckReport::Listing
             };
-            check(rt, file, report)
+            check(rt, file, names, report)
         }
+        Asked::Points {
+            file,
+            site,
+            csv,
+            names,
+        } => points(rt, file, site, csv, names),
         Asked::Translate { settings } => translate_as(rt, settings),
         Asked::Replay { file } => match settings_of(rt, file) {
             Ok(settings) => replay_input(rt, settings),
@@ -131,31 +143,56 @@ fn replay_input(rt: &HostRuntime, settings: Settings) -> io::Result<u8> {
     Ok(replay(rt.alloc(), settings, reader, writer))
 }
 
-/// `gateway check`: what a settings file means, or what is wrong with it; gives the status.
-fn check(rt: &HostRuntime, path: &str, report: CheckReport) -> io::Result<u8> {
+/// `gateway check`: what a settings file means, with the names of a list, or what is wrong with it; gives the status.
+fn check(rt: &HostRuntime, path: &str, names: Option<&str>, report: CheckReport) -> io::Result<u8> {
     match read_octets(rt, path) {
-        Ok(octets) => check_octets(rt, octets.as_slice(), report),
+        Ok(octets) => check_octets(rt, octets.as_slice(), names, report),
         Err(bad) => refuse_file(rt, "", &bad),
     }
 }
 
 /// What the octets of a settings file mean, or what is wrong with them; gives the status.
-fn check_octets(rt: &HostRuntime, octets: &[u8], report: CheckReport) -> io::Result<u8> {
+fn check_octets(
+    rt: &HostRuntime,
+    octets: &[u8],
+    names: Option<&str>,
+    report: CheckReport,
+) -> io::Result<u8> {
     match read_settings(rt.alloc(), octets) {
-        Ok(settings) => write_report(rt, &settings, report),
+        Ok(settings) => check_named(rt, &settings, names, report),
         Err(why) => refuse_octets(rt, "", octets, &why),
     }
 }
 
-/// Writes what settings mean, and on standard error what reads like a slip in them; gives the status.
-fn write_report(rt: &HostRuntime, settings: &Settings, report: CheckReport) -> io::Result<u8> {
+/// What settings mean, with the names of a list, or what is wrong with that; gives the status.
+fn check_named(
+    rt: &HostRuntime,
+    settings: &Settings,
+    names: Option<&str>,
+    report: CheckReport,
+) -> io::Result<u8> {
+    match Named::read(rt, settings, names) {
+        Ok(named) => write_report(rt, settings, &named, report),
+        Err(why) => refuse_list(rt, "", &why),
+    }
+}
+
+/// Writes what settings mean, and on standard error what reads like a slip in them and in the names; gives the status.
+fn write_report(
+    rt: &HostRuntime,
+    settings: &Settings,
+    named: &Named,
+    report: CheckReport,
+) -> io::Result<u8> {
     let mut writer = BufWriter::new(rt.alloc(), io::writer(rt))?;
-    if report.write(settings, &mut writer).is_err() || writer.flush().is_err() {
+    if report.write(settings, &named.names, &mut writer).is_err() || writer.flush().is_err() {
         return Ok(REFUSED);
     }
     let mut warnings = Vec::new(rt.alloc());
     // The settings are right, also where nobody can be warned.
-    if write_warnings(rt.alloc(), settings, &mut warnings).is_ok() {
+    if write_warnings(rt.alloc(), settings, &named.names, &mut warnings).is_ok()
+        && named.write_doubts(&mut warnings).is_ok()
+    {
         let _ = rt.stderr().write_all(warnings.as_slice());
     }
     Ok(0)

@@ -1,6 +1,7 @@
 //! `gateway run`.
 
 use crate::USAGE;
+use crate::lists::{Named, Unlisted, refuse_list};
 use crate::obstacle::{Obstacle, failure_at};
 use crate::recording::{Recording, tell_end};
 use crate::refusal::{complain, refuse_file, refuse_for};
@@ -11,6 +12,7 @@ use gw_command_line::{RunOptions, VERSION};
 use gw_journal::{Doubt, Journal, JournalEvent};
 use gw_map::Settings;
 use gw_model::Memory;
+use gw_points::Names;
 use gw_server::{
     Clock, Closed, Gate, Host, Network, OpenGate, Options, SystemClock, journal_of, open, serve_as,
 };
@@ -34,6 +36,9 @@ enum Unserved<'a> {
     /// The settings can't be used.
     #[error(transparent)]
     Settings(#[from] BadFile<'a>),
+    /// The list with the names can't be used.
+    #[error(transparent)]
+    Names(#[from] Unlisted<'a>),
     /// What is behind `--allow` is no address.
     #[error("--allow takes an address, or an address, / and a number of bits")]
     Allow,
@@ -66,6 +71,7 @@ pub fn run<H: Host>(
             Ok(0)
         }
         Err(Unserved::Settings(bad)) => refuse_file(rt, front_of(rt), &bad),
+        Err(Unserved::Names(why)) => refuse_list(rt, front_of(rt), &why),
         Err(refused @ Unserved::Allow) => {
             eprintln!(rt; "error: {refused}")?;
             Ok(USAGE)
@@ -91,8 +97,9 @@ fn serve_file<'a, H: Host>(
         return Err(Unserved::Hindered(Obstacle::Overwriting));
     }
     let (settings, source) = read_source(rt, file)?;
+    let Named { names, .. } = Named::read(rt, &settings, asked.names)?;
     let clock = SystemClock::new(host);
-    let (entrances, journal) = begin(rt, host, &clock, &settings, source, asked)?;
+    let (entrances, journal) = begin(rt, host, &clock, &settings, source, names, asked)?;
     let site = Site {
         alloc: rt.alloc(),
         host,
@@ -117,10 +124,11 @@ fn begin<'a, H: Host>(
     clock: &SystemClock<'_, H>,
     settings: &Settings,
     source: Source<'_>,
+    names: Names,
     asked: &RunOptions<'a>,
 ) -> Result<(Entrances, Journal), Unserved<'a>> {
     let entrances = Entrances::open(rt.alloc(), host, settings, asked)?;
-    let journal = begun_journal(rt, host, clock, settings, source)?;
+    let journal = begun_journal(rt, host, clock, settings, source, names)?;
     Ok((entrances, journal))
 }
 
@@ -207,8 +215,9 @@ fn begun_journal<'a, H: Host>(
     clock: &SystemClock<'_, H>,
     settings: &Settings,
     source: Source<'_>,
+    names: Names,
 ) -> Result<Journal, Unserved<'a>> {
-    let journal = journal_of(rt.alloc(), settings, is_journal(rt))?;
+    let journal = journal_of(rt.alloc(), settings, is_journal(rt))?.with_names(names);
     let wall = clock.wall();
     journal.tell(host, wall, started(rt.alloc(), settings, source)?);
     tell_doubts(rt.alloc(), host, &journal, wall, settings)?;

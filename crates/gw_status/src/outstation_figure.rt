@@ -202,11 +202,34 @@ fn write_figure<W: fmt::Write>(
     outstation: &OutstationStatus,
     figure: Figure,
 ) -> fmt::Result {
-    let place = Escaped::label(outstation.place.as_str());
-    writeln!(
-        f,
-        "{name}{{outstation=\"{number}\",place=\"{place}\"}} {figure}"
-    )
+    let labels = Labels { number, outstation };
+    writeln!(f, "{name}{{{labels}}} {figure}")
+}
+
+/// The labels of an outstation: its number, where it is reached, and its name where it has one.
+#[derive(Clone, Copy)]
+struct Labels<'a> {
+    number: usize,
+    outstation: &'a OutstationStatus,
+}
+
+impl<'a> fmt::Display for Labels<'a> {
+    fn fmt<W: fmt::Write>(&self, f: &mut fmt::Formatter<W>) -> fmt::Result {
+        let Labels { number, outstation } = *self;
+        let place = Escaped::label(outstation.place.as_str());
+        write!(f, "outstation=\"{number}\",place=\"{place}\"")?;
+        let name = outstation.name.as_str();
+        if name.is_empty() {
+            Ok(())
+        } else {
+            write_name(f, Escaped::label(name))
+        }
+    }
+}
+
+/// Writes the label of a name.
+fn write_name<W: fmt::Write>(f: &mut fmt::Formatter<W>, name: Escaped<'_>) -> fmt::Result {
+    write!(f, ",name=\"{name}\"")
 }
 
 /// The internal indications of the outstations that answered, one by one.
@@ -249,9 +272,9 @@ fn write_indication<W: fmt::Write>(
     name: &str,
     is_set: u8,
 ) -> fmt::Result {
-    let place = Escaped::label(outstation.place.as_str());
+    let labels = Labels { number, outstation };
     writeln!(
         f,
-        "gateway_outstation_indication{{outstation=\"{number}\",place=\"{place}\",indication=\"{name}\"}} {is_set}"
+        "gateway_outstation_indication{{{labels},indication=\"{name}\"}} {is_set}"
     )
 }

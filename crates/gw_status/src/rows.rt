@@ -30,7 +30,7 @@ fn write_outstation<W: fmt::Write>(
     outstation: &OutstationStatus,
     now: u64,
 ) -> fmt::Result {
-    let place = Escaped::html(outstation.place.as_str());
+    let place = Place(outstation);
     let connection = Connection {
         since: outstation.connected_since,
         now,
@@ -55,6 +55,31 @@ fn write_outstation<W: fmt::Write>(
         Counts(&counts),
         Parts(&orders)
     )
+}
+
+/// Where an outstation is reached, behind its name where it has one.
+#[derive(Clone, Copy)]
+struct Place<'a>(&'a OutstationStatus);
+
+impl<'a> fmt::Display for Place<'a> {
+    fn fmt<W: fmt::Write>(&self, f: &mut fmt::Formatter<W>) -> fmt::Result {
+        let place = Escaped::html(self.0.place.as_str());
+        let name = self.0.name.as_str();
+        if name.is_empty() {
+            write!(f, "{place}")
+        } else {
+            write_named(f, Escaped::html(name), place)
+        }
+    }
+}
+
+/// Writes what an outstation is called, and below that where it is reached.
+fn write_named<W: fmt::Write>(
+    f: &mut fmt::Formatter<W>,
+    name: Escaped<'_>,
+    place: Escaped<'_>,
+) -> fmt::Result {
+    write!(f, "{name} <small>{place}</small>")
 }
 
 /// The cell that tells whether an outstation is connected, and since when, at a moment.

@@ -31,6 +31,8 @@ impl Status {
 /// How it is with an outstation.
 #[derive(Drop)]
 pub struct OutstationStatus {
+    /// What it is called; empty where it has no name.
+    pub name: String,
     /// Where it is reached, as the settings say.
     pub place: String,
     /// Since when a connection stands, if one does.

@@ -194,31 +194,33 @@ fn status_of<R: Wait, C: Clock>(
         outstations: Vec::new(desk.alloc),
         clients: Vec::new(desk.alloc),
     };
-    add_outstations(
-        desk.rt,
-        &mut status.outstations,
-        desk.board.outstations(),
-        site.plans,
-        counted,
-    )?;
+    add_outstations(desk, &mut status.outstations, site.plans, counted)?;
     add_clients(desk.rt, &mut status.clients, desk.board.clients(), counted)?;
     Ok(status)
 }
 
 /// Adds how it is with each outstation.
-fn add_outstations<R: Wait>(
-    rt: &R,
+fn add_outstations<R: Wait, C: Clock>(
+    desk: &Desk<'_, R, C>,
     outstations: &mut Vec<OutstationStatus>,
-    cards: &[OutstationCard],
     plans: &[Plan],
     counted: &Figures,
 ) -> Result<(), Memory> {
-    for (position, card) in cards.iter().enumerate() {
+    for (position, card) in desk.board.outstations().iter().enumerate() {
         if let (Some(plan), Some(orders)) = (plans.get(position), counted.orders.get(position)) {
-            outstations.push(outstation_status(rt, card, plan.connect.clone()?, *orders))?;
+            let name = name_at(desk, position)?;
+            let place = plan.connect.clone()?;
+            outstations.push(outstation_status(desk.rt, card, name, place, *orders))?;
         }
     }
     Ok(())
+}
+
+/// What the outstation at a position is called; nothing where it has no name.
+fn name_at<R: Wait, C: Clock>(desk: &Desk<'_, R, C>, position: usize) -> Result<String, Memory> {
+    let outstation = u8::try_from(position).unwrap_or(u8::MAX);
+    let name = desk.journal.name_of(outstation).unwrap_or("");
+    Ok(String::from_str(desk.alloc, name)?)
 }
 
 /// Adds how it is with each place for a client.
@@ -234,15 +236,17 @@ fn add_clients<R: Wait>(
     Ok(())
 }
 
-/// How it is with an outstation that is reached at a place, and with its orders.
+/// How it is with an outstation of a name that is reached at a place, and with its orders.
 fn outstation_status<R: Wait>(
     rt: &R,
     card: &OutstationCard,
+    name: String,
     place: String,
     orders: OrderCounts,
 ) -> OutstationStatus {
     let figures = card.figures.lock(rt);
     OutstationStatus {
+        name,
         place,
         connected_since: figures.connected_since,
         last_answer: figures.last_answer,

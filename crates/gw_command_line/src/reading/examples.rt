@@ -4,7 +4,7 @@
 ghost use Rattle.std.specs.Prelude.{◌≡◌, [], ◌∷◌, codes, None, Some, false, true};
 ghost use Rattle.clap.specs.Words.{fault_of};
 ghost use Rattle.clap.specs.declared.error.ErrorKind.TheVariants.{DisplayHelp, InvalidSubcommand, MissingRequiredArgument, MissingSubcommand, UnknownArgument, ValueValidation};
-ghost use Rattle.gw_command_line.specs.CommandLine.{gateway, no_options, spelled, to_check, to_replay, to_run, to_translate};
+ghost use Rattle.gw_command_line.specs.CommandLine.{gateway, no_options, spelled, to_check, to_points, to_replay, to_run, to_translate};
 
 /// Five lines that ask for something, and five that are refused, with the kinds of error that may
 /// say so. A word that is no subcommand may be called an unknown argument too.
@@ -21,11 +21,11 @@ pub fn lines()
         ≡ Some (to_replay (codes "a")) }
     ensures check_taken { fault_of gateway (codes "gateway" ∷ codes "check" ∷ codes "a" ∷ []) ≡ [] }
     ensures check_spelled { spelled (codes "gateway" ∷ codes "check" ∷ codes "a" ∷ [])
-        ≡ Some (to_check (codes "a") false) }
+        ≡ Some (to_check (codes "a") false None) }
     ensures profile_taken { fault_of gateway (codes "gateway" ∷ codes "check" ∷ codes "a" ∷ codes "--profile" ∷ [])
         ≡ [] }
     ensures profile_spelled { spelled (codes "gateway" ∷ codes "check" ∷ codes "a" ∷ codes "--profile" ∷ [])
-        ≡ Some (to_check (codes "a") true) }
+        ≡ Some (to_check (codes "a") true None) }
     ensures no_file { fault_of gateway (codes "gateway" ∷ codes "check" ∷ []) ≡ MissingRequiredArgument ∷ [] }
     ensures alone { fault_of gateway (codes "gateway" ∷ []) ≡ MissingSubcommand ∷ [] }
     ensures unknown { fault_of gateway (codes "gateway" ∷ codes "nonsense" ∷ [])
@@ -33,6 +33,22 @@ pub fn lines()
     ensures extra { fault_of gateway (codes "gateway" ∷ codes "translate" ∷ codes "extra" ∷ [])
         ≡ UnknownArgument ∷ [] }
     ensures help { fault_of gateway (codes "gateway" ∷ codes "--help" ∷ []) ≡ DisplayHelp ∷ [] }
+{}
+
+/// Lines with lists of points: the settings of a list, the list of settings, and a check with names.
+#[tactic(auto, unfolding(clap::proofs::OnLiterals::clap_on_literals))]
+pub fn list_lines()
+    ensures site_taken { fault_of gateway
+        (codes "gateway" ∷ codes "points" ∷ codes "a" ∷ codes "--site" ∷ codes "b" ∷ []) ≡ [] }
+    ensures site_spelled { spelled (codes "gateway" ∷ codes "points" ∷ codes "a" ∷ codes "--site" ∷ codes "b" ∷ [])
+        ≡ Some (to_points (codes "a") (Some (codes "b")) false None) }
+    ensures csv_taken { fault_of gateway (codes "gateway" ∷ codes "points" ∷ codes "--csv" ∷ codes "a" ∷ []) ≡ [] }
+    ensures csv_spelled { spelled (codes "gateway" ∷ codes "points" ∷ codes "--csv" ∷ codes "a" ∷ [])
+        ≡ Some (to_points (codes "a") None true None) }
+    ensures names_taken { fault_of gateway
+        (codes "gateway" ∷ codes "check" ∷ codes "a" ∷ codes "--names" ∷ codes "b" ∷ []) ≡ [] }
+    ensures names_spelled { spelled (codes "gateway" ∷ codes "check" ∷ codes "a" ∷ codes "--names" ∷ codes "b" ∷ [])
+        ≡ Some (to_check (codes "a") false (Some (codes "b"))) }
 {}
 
 /// Lines of `gateway run`: two that ask for something, and two that are refused.
@@ -71,6 +87,10 @@ pub fn option_lines()
         ∷ codes "--record" ∷ codes "c" ∷ codes "--record-size" ∷ codes "1" ∷ [])
         ≡ Some (to_run (codes "a") None
         (record no_options { status = Some (codes "b"); «record» = Some (codes "c"); record_size = 1 })) }
+    ensures names_taken { fault_of gateway (codes "gateway" ∷ codes "run" ∷ codes "a" ∷ codes "--names" ∷ codes "b" ∷ [])
+        ≡ [] }
+    ensures names_spelled { spelled (codes "gateway" ∷ codes "run" ∷ codes "a" ∷ codes "--names" ∷ codes "b" ∷ [])
+        ≡ Some (to_run (codes "a") None (record no_options { names = Some (codes "b") })) }
     ensures no_size { fault_of gateway
         (codes "gateway" ∷ codes "run" ∷ codes "a" ∷ codes "--record-size" ∷ codes "0" ∷ []) ≡ ValueValidation ∷ [] }
 {}
