@@ -179,7 +179,7 @@ def wrong_apdu(rng, sent, got, asdu):
 
 RIGHT_METHODS, METHODS = ["GET", "GET", "GET", "HEAD", "POST", "PUT", "DELETE"], ["OPTIONS", "get", "X" * 300, ""]
 TARGETS = ["/", "/metrics", "/other", "/?a=b", "/metrics?x", "http://host/metrics", "http://host", "*", "", "//"]
-TARGETS += ["/%00", "/" + "a" * 5000, "/../metrics"]
+TARGETS += ["/alive", "/health", "/%00", "/" + "a" * 5000, "/../metrics"]
 RIGHT_VERSIONS, VERSIONS = ["HTTP/1.1", "HTTP/1.0"], ["HTTP/2", "HTTP/9.9", "http/1.1", ""]
 FIELDS = ["Host: a", "A:b", "Accept: */*", "Content-Length: 5", "Transfer-Encoding: chunked"]
 WRONG_FIELDS = [": no name", "No colon", "A" * 5000 + ": b", "Tab\t: c", " folded", "A: \x00", "A: \u00e9"]
@@ -195,10 +195,12 @@ def random_request(rng):
     path = target.removeprefix("http://host").split("?")[0] or "/"
     if len(fields) > 64 or len(target) > 1000:
         wanted = {431}
-    elif path not in ("/", "/metrics"):
+    elif path not in ("/", "/metrics", "/alive", "/health"):
         wanted = {404}
+    elif method not in ("GET", "HEAD"):
+        wanted = {405}
     else:
-        wanted = {200} if method in ("GET", "HEAD") else {405}
+        wanted = {200} if path in ("/", "/metrics") else {200, 503}
     if rng.random() < 0.3:
         fields.insert(rng.randrange(len(fields) + 1), rng.choice(WRONG_FIELDS))
         is_right = False

@@ -355,7 +355,7 @@ def judge_status(octets, answer, wanted):
             raise Difference(f"no answer, wanted {wanted}")
         return "none"
     head, _, body = answer.partition(b"\r\n\r\n")
-    match = re.match(rb"HTTP/1\.1 (200|400|404|405|431) [A-Z][A-Za-z ]+\r\n", head)
+    match = re.match(rb"HTTP/1\.1 (200|400|404|405|431|503) [A-Z][A-Za-z ]+\r\n", head)
     lengths = re.findall(rb"\r\nContent-Length: (\d+)", head)
     if not match or len(lengths) != 1 or b"HTTP/1.1 " in body:
         raise Difference(f"no answer: {answer[:300]!r}")

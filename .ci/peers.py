@@ -268,7 +268,7 @@ class Outstation:
     @property
     def labels(self):
         """What its figures have in the status."""
-        return f'outstation="{self.number}",place="{self.place}"'
+        return f'outstation="{self.number}",place="{self.place}",target="{self.place}"'
 
     def accept(self):
         return Link(self.listener.accept()[0], self.address)

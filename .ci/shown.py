@@ -1,21 +1,24 @@
 """Cases of `.ci/serve`: what the status shows, as a page and as figures, and what it answers to requests."""
+import hashlib
 import re
 import socket
 import time
 from contextlib import suppress
+from pathlib import Path
 
 from peers import (
     ACTIVATION, CONFIRMATION, DIRECT_OPERATE, EVENTS, INTEGRITY, NEGATIVE, STOP, STOP_CON, TERMINATION, asdu, general,
     i_format, latch, response, same, unsolicited,
 )
 from scene import (
-    BINARY_ON, CONTROLS, DOUBLE, LOOK, OFF_COMMAND, OFF_GIVEN, OFF_WORDS, SWITCH, TROUBLES, VERSION, answered, case, inputs,
+    BINARY_ON, CONTROLS, DOUBLE, LOOK, OBJECTS, OFF_COMMAND, OFF_GIVEN, OFF_WORDS, SWITCH, TROUBLES, VERSION, answered, case, inputs,
 )
 
 # ---- requests to the status
 
 HTML, PLAIN, FIGURES = (f"text/{it}; charset=utf-8" for it in ("html", "plain", "plain; version=0.0.4"))
 PAGE, METRICS = ("200 OK", HTML, "<!DOCTYPE html>\n<html lang=en>\n"), ("200 OK", FIGURES, "# HELP gateway_info ")
+ALIVE, HEALTH = ("200 OK", PLAIN, "alive\n"), ("200 OK", PLAIN, "ok\n")
 MALFORMED, NOT_FOUND = "400 Bad Request", "404 Not Found"
 NOT_ALLOWED, TOO_LONG = "405 Method Not Allowed", "431 Request Header Fields Too Large"
 REQUESTS = [
@@ -24,6 +27,13 @@ REQUESTS = [
     ("HEAD / HTTP/1.1\r\n\r\n", PAGE),
     ("GET /metrics HTTP/1.1\r\nContent-Length: 9\r\n\r\nbody", METRICS),
     ("\r\nHEAD /metrics? HTTP/1.1\r\n\r\n", METRICS),
+    ("GET /alive HTTP/1.1\r\n\r\n", ALIVE),
+    ("HEAD /alive?a HTTP/1.0\r\n\r\n", ALIVE),
+    ("GET http://a/health HTTP/1.1\r\n\r\n", HEALTH),
+    ("HEAD /health HTTP/1.1\r\n\r\n", HEALTH),
+    ("GET /alive/ HTTP/1.1\r\n\r\n", NOT_FOUND),
+    ("GET /Health HTTP/1.1\r\n\r\n", NOT_FOUND),
+    ("POST /health HTTP/1.1\r\n\r\n", NOT_ALLOWED),
     # Targets in absolute form.
     ("GET http://a/ HTTP/1.1\r\n\r\n", PAGE),
     ("GET http://a:80/metrics?b=/ HTTP/1.1\r\n\r\n", METRICS),
@@ -109,24 +119,36 @@ ODD_LINE, ODD_LABEL, ODD_HTML = "a\"b\\c\\n<&'>\\t", "a\\\"b\\\\c\\n<&'>\\\\t", 
 
 # Each family of figures, in order, with its type and its words.
 FAMILIES = """\
-gateway_info gauge The version of the gateway.
+gateway_info gauge The version of the gateway, and which it is.
+gateway_start_time_seconds gauge Unix time at which the gateway started.
 gateway_uptime_seconds gauge Time since the gateway started.
 gateway_steps_total counter Steps of the core.
 gateway_news_total counter Spontaneous observations.
+gateway_refused_connections_total counter Connections that weren't allowed.
+gateway_left_out_lines_total counter Lines of the log that were left out.
+process_resident_memory_bytes gauge Resident memory of the gateway.
+process_cpu_seconds_total counter Processor time that the gateway took.
 gateway_outstation_connected gauge Whether a connection to the outstation stands.
 gateway_outstation_connection_start_time_seconds gauge Unix time since which the connection stands.
+gateway_outstation_answered gauge Whether the outstation has answered since it connected.
 gateway_outstation_last_answer_time_seconds gauge Unix time of the last answer.
 gateway_outstation_requests_total counter Requests sent to the outstation.
 gateway_outstation_unanswered_requests_total counter Requests not answered in time.
 gateway_outstation_refused_fragments_total counter Fragments of the outstation that were refused.
 gateway_outstation_skipped_bytes_total counter Octets of the outstation that the link skipped.
+gateway_outstation_passed_over_objects_total counter Objects of the outstation of kinds that aren't taken.
 gateway_outstation_events_total counter Events that the outstation reported.
+gateway_outstation_clock_not_set gauge Whether the outstation isn't polled since its clock can't be set.
+gateway_outstation_points gauge Points of the outstation.
+gateway_outstation_not_topical_points gauge Points whose last value isn't topical.
+gateway_outstation_never_told_points gauge Points that no response had, though all were asked for.
 gateway_outstation_indication gauge Whether the last response had this internal indication.
 gateway_outstation_orders_total counter Commands accepted as orders for the outstation.
 gateway_outstation_done_orders_total counter Orders that the outstation did.
 gateway_outstation_failed_orders_total counter Orders that failed.
 gateway_outstation_let_go_orders_total counter Orders whose client's session ended before they were given.
 gateway_outstation_waiting_orders gauge Orders that wait for the outstation, or for its answer.
+gateway_outstation_order_outcomes_total counter Orders for the outstation that ended, by how they did.
 gateway_client_connected gauge Whether a client is connected at this place.
 gateway_client_connection_start_time_seconds gauge Unix time since which the connection stands.
 gateway_client_data_transfer gauge Whether data transfer is started.
@@ -135,21 +157,30 @@ gateway_client_queued_observations gauge Observations that wait.
 gateway_client_dropped_observations_total counter Observations dropped since too many waited.
 gateway_client_info gauge Who is connected at this place.
 gateway_client_closes_total counter Connections of this place that ended, by cause.
+gateway_client_refused_commands_total counter Commands for controls from this place that were refused, by cause.
 """
 INDICATIONS = (
     "ALL_STATIONS CLASS_1 CLASS_2 CLASS_3 NEED_TIME LOCAL_CONTROL TROUBLE RESTART NO_FUNCTION OBJECT_UNKNOWN "
     "PARAMETER_ERROR OVERFLOW ALREADY_EXECUTING CONFIGURATION_CORRUPT").split()
 CLOSES = "t1 sequence not_started malformed flooded lost".split()
+REFUSALS = (
+    "no_state qualifier out_of_range outstation_down selected_by_another not_selected unlike_select no_place").split()
 # The figures of the outstation with trouble, and of the one that was never reached.
 OF_OUTSTATIONS = {
     "outstation_connected": (1, 0),
     "outstation_connection_start_time_seconds": ("1699988000.000",),
+    "outstation_answered": (1, 0),
     "outstation_last_answer_time_seconds": ("1699999987.655",),
     "outstation_requests_total": (11, 0),
     "outstation_unanswered_requests_total": (1, 0),
     "outstation_refused_fragments_total": (2, 0),
     "outstation_skipped_bytes_total": (3, 0),
+    "outstation_passed_over_objects_total": (0, 0),
     "outstation_events_total": (29, 0),
+    "outstation_clock_not_set": (0, 0),
+    "outstation_points": (3, 0),
+    "outstation_not_topical_points": (2, 0),
+    "outstation_never_told_points": (2, 0),
     "outstation_orders_total": (10, 0),
     "outstation_done_orders_total": (5, 0),
     "outstation_failed_orders_total": (2, 0),
@@ -169,18 +200,27 @@ OF_CLIENTS = {
 
 def metrics_of(outstation, centres):
     """All figures, as text, but for the steps of the core."""
-    labels = [outstation.labels, f'outstation="1",place="{ODD_LABEL}"']
+    labels = [outstation.labels, f'outstation="1",place="{ODD_LABEL}",target="{ODD_LABEL}"']
     clients = [f'client="{place}"' for place in range(8)]
-    figures = dict(info=[(f'version="{VERSION}"', 1)], uptime_seconds="90061.500", steps_total="#", news_total=29)
+    figures = dict(
+        info=[(f'version="{VERSION}"', 1)], start_time_seconds=f"{STARTED // 1000}.500", uptime_seconds="90061.500",
+        steps_total="#", news_total=29, refused_connections_total=0,
+        left_out_lines_total=[(f'kind="{kind}"', 0) for kind in ("control", "other")])
+    figures |= dict.fromkeys(("process_resident_memory_bytes", "process_cpu_seconds_total"), "#")
     figures |= {name: list(zip(labels, values)) for name, values in OF_OUTSTATIONS.items()}
     figures["outstation_indication"] = [
         (f'{labels[0]},indication="{name}"', int(name in ("CLASS_1", "NEED_TIME", "RESTART", "OVERFLOW")))
         for name in INDICATIONS]
+    figures["outstation_order_outcomes_total"] = [
+        (f'{labels[position]},outcome="{outcome}"', count) for position, counts in enumerate(((5, 2, 1), (0, 0, 0)))
+        for outcome, count in zip(("done", "failed", "let_go"), counts)]
     figures |= {name: list(zip(clients, values)) for name, values in OF_CLIENTS.items()}
     figures["client_info"] = [(f'{clients[n]},address="{it.address}"', 1) for n, it in enumerate(centres)]
     closes = {(0, "not_started"): 2, (0, "lost"): 1}
     figures["client_closes_total"] = [
         (f'{clients[place]},cause="{cause}"', closes.get((place, cause), 0)) for place in range(8) for cause in CLOSES]
+    figures["client_refused_commands_total"] = [
+        (f'{clients[place]},cause="{cause}"', 0) for place in range(8) for cause in REFUSALS]
     text = ""
     for name, kind, words in (it.split(" ", 2) for it in FAMILIES.splitlines()):
         text += f"# HELP {name} {words}\n# TYPE {name} {kind}\n"
@@ -206,30 +246,39 @@ PAGE_HEAD = """\
 """
 PAGE_BODY = """\
 <body>
-<h1><span class=wrong>Not all is well:</span> <strong>1 of 2 outstations connected</strong>, \
-<strong>1 with trouble</strong>, 2 of 8 clients, 1 in data transfer</h1>
+<h1 class=wrong>Not all is well<span>0 of 2 outstations all right, 2 of 8 clients connected, 1 in data transfer</span></h1>
+<ul>
+<li class=wrong>client 0 {first}: 4 observations dropped in the last minute</li>
+<li class=wrong>outstation 0 {place}: trouble it tells itself: OVERFLOW, since 2023-11-14T22:13:07Z</li>
+<li class=wrong>outstation 1 {odd}: not connected: no address of a host and a port, since 2023-11-13T21:12:18Z</li>
+</ul>
+<ul>
+<li class=caution>outstation 0 {place}: asks for the time, and isn't given it, since lan_time isn't set</li>
+<li class=caution>outstation 0 {place}: 2 of 3 points never told</li>
+</ul>
 <p>At 2023-11-14T22:13:20Z. The gateway runs for 1 d 1 h, since 2023-11-13T21:12:18Z.</p>
-<p>Version {version}, # steps of the core, 29 spontaneous observations.</p>
+<p>Settings {file}, SHA-256 {digest}. Listens on 127.0.0.1:{port}. Version {version}.</p>
+<p># steps of the core, 29 spontaneous observations.</p>
 <h2>Outstations</h2>
 <table>
-<thead><tr><th>Outstation</th><th>State</th><th>Last answer</th><th>Indications</th><th class=number>Events</th>\
-<th class=number>Requests</th><th class=number>Unanswered</th><th class=number>Refused fragments</th>\
-<th class=number>Skipped octets</th><th>Orders</th></tr></thead>
+<thead><tr><th>Outstation</th><th>State</th><th>Last answer</th><th>Indications</th><th>Points</th>\
+<th class=number>Events</th><th class=number>Requests</th><th>Not taken</th><th>Orders</th></tr></thead>
 <tbody>
-<tr><th scope=row><i>0</i> {place}</th>\
-<td data-column=State>connected <small>for 3 h 20 min</small> <small>since 2023-11-14T18:53:20Z</small></td>\
+<tr><th scope=row><i>0</i> {place} <small>link address 1</small> <small>common address 1</small></th>\
+<td class=wrong data-column=State>trouble it tells itself: OVERFLOW <small>for 12 s</small> \
+<small>since 2023-11-14T22:13:07Z</small></td>\
 <td data-column="Last answer">12 s ago <small>2023-11-14T22:13:07Z</small></td>\
-<td data-column=Indications><strong>TROUBLE:</strong> CLASS_1, NEED_TIME, RESTART, OVERFLOW <small>0x0892</small></td>\
-<td class=number data-column="Events">29</td><td class=number data-column="Requests">11</td>\
-<td class=number data-column="Unanswered">1</td><td class=number data-column="Refused fragments">2</td>\
-<td class=number data-column="Skipped octets">3</td>\
+<td class=caution data-column=Indications>CLASS_1, NEED_TIME, RESTART, OVERFLOW <small>0x0892</small></td>\
+<td class=caution data-column=Points>3 <small>2 not topical</small> <small>2 never told</small></td>\
+<td class=number data-column="Events">29</td>\
+<td class=number data-column=Requests>11 <small>1 unanswered</small></td>\
+<td data-column="Not taken">2 fragments refused, 3 octets skipped</td>\
 <td data-column=Orders>5 done, 2 failed, 1 let go, 2 waiting</td></tr>
-<tr><th scope=row><i>1</i> {odd}</th>\
-<td data-column=State><strong>NOT CONNECTED</strong></td><td data-column="Last answer">never</td>\
-<td data-column=Indications>none</td><td class=number data-column="Events">0</td>\
-<td class=number data-column="Requests">0</td><td class=number data-column="Unanswered">0</td>\
-<td class=number data-column="Refused fragments">0</td><td class=number data-column="Skipped octets">0</td>\
-<td data-column=Orders>none</td></tr>
+<tr><th scope=row><i>1</i> {odd} <small>link address 2</small> <small>common address 1</small></th>\
+<td class=wrong data-column=State>not connected: no address of a host and a port <small>for 1 d 1 h</small> \
+<small>since 2023-11-13T21:12:18Z</small></td><td data-column="Last answer">never</td>\
+<td data-column=Indications>none</td><td data-column=Points>0</td><td class=number data-column="Events">0</td>\
+<td class=number data-column=Requests>0</td><td data-column="Not taken">none</td><td data-column=Orders>none</td></tr>
 </tbody>
 </table>
 <h2>Clients</h2>
@@ -237,11 +286,13 @@ PAGE_BODY = """\
 <thead><tr><th>Client</th><th>State</th><th>Connected</th><th class=number>Not acknowledged</th>\
 <th class=number>Queued</th><th class=number>Dropped</th><th>Ended</th></tr></thead>
 <tbody>
-<tr><th scope=row><i>0</i> {first}</th><td data-column=State>data transfer</td>\
+<tr><th scope=row><i>0</i> {first}</th>\
+<td class=wrong data-column=State>reads too slowly: 4 dropped in the last minute \
+<small>data transfer for 1 h 2 min</small></td>\
 <td data-column=Connected>for 1 h 2 min <small>since 2023-11-14T21:11:15Z</small></td>\
 <td class=number data-column="Not acknowledged">8</td><td class=number data-column="Queued">17</td>\
 <td class=number data-column="Dropped">4</td><td data-column=Ended>2 not_started, 1 lost</td></tr>
-<tr><th scope=row><i>1</i> {second}</th><td data-column=State>connected, no data transfer</td>\
+<tr><th scope=row><i>1</i> {second}</th><td data-column=State>connected only</td>\
 <td data-column=Connected>for 1 h 2 min <small>since 2023-11-14T21:11:15Z</small></td>\
 <td class=number data-column="Not acknowledged">0</td><td class=number data-column="Queued">0</td>\
 <td class=number data-column="Dropped">0</td><td data-column=Ended>none</td></tr>
@@ -257,18 +308,21 @@ FREE_ROW = """\
 """
 
 
-def page_of(outstation, centres):
+def page_of(scene, outstation, centres):
     """The page, but for its style and the steps of the core."""
     free = "".join(FREE_ROW.format(place) for place in range(2, 8))
     first, second = (it.address for it in centres)
+    digest = hashlib.sha256(Path(scene.file.name).read_bytes()).hexdigest()
     return PAGE_HEAD + PAGE_BODY.format(
-        version=VERSION, place=outstation.place, odd=ODD_HTML, first=first, second=second, free=free)
+        version=VERSION, file=scene.file.name, digest=digest, port=scene.port, place=outstation.place, odd=ODD_HTML,
+        first=first, second=second, free=free)
 
 
 def shown_at(scene, path):
-    """What the status shows at a path, without the number of steps."""
+    """What the status shows at a path, without the number of steps and what the process takes."""
     body = answered(scene.asking(f"GET {path} HTTP/1.1\r\n\r\n".encode()))[2]
-    return re.sub(r"(gateway_steps_total )\d+$|\d+( steps of the core)", r"\1#\2", body, flags=re.MULTILINE)
+    varies = r"((?:gateway_steps_total|process_\w+) )[\d.]+$|\d+( steps of the core)"
+    return re.sub(varies, r"\1#\2", body, flags=re.MULTILINE)
 
 
 def same_lines(what, got, wanted):
@@ -352,7 +406,7 @@ def whole_status(scene):
     scene.clock.set(NOW)
     same_lines("the figures", shown_at(scene, "/metrics"), metrics_of(outstation, centres))
     page = re.sub("<style>\n.*</style>", "<style>\n..</style>", shown_at(scene, "/"), flags=re.DOTALL)
-    same_lines("the page", page, page_of(outstation, centres))
+    same_lines("the page", page, page_of(scene, outstation, centres))
     for what in TROUBLES[:2]:
         scene.told(f"{outstation.name} {what}")
     for _ in range(2):
@@ -374,13 +428,13 @@ def page_of_a_gateway_that_is_well(scene):
     outstation = scene.outstation()
     scene.start(status=True)
     link, _ = scene.accept(outstation), scene.started()
-    link.send(response(0, iin=0x30))
+    link.send(response(0, OBJECTS, iin=0x20))
     scene.has_figures(f'{outstation.labels},indication="LOCAL_CONTROL"', outstation_indication=1)
-    wanted = "<span class=right>All is well:</span> 1 of 1 outstations connected, 1 of 8 clients, 1 in data transfer"
+    wanted = "All is well<span>1 of 1 outstations all right, 1 of 8 clients connected, 1 in data transfer</span>"
     for seconds, words in SPANS.items():
         scene.clock.set(NOW + seconds * 1000)
         page = shown_at(scene, "/")
-        same("how all is", re.findall("<h1>(.*)</h1>", page), [wanted])
+        same("how all is", re.findall("<h1 class=right>(.*)</h1>", page), [wanted])
         same("the title of the page", re.findall("<title>(.*)</title>", page), ["All is well - gateway"])
         runs = re.findall(r"The gateway runs for (.*), since (.*)\.</p>", page)
         same("for how long the gateway runs", runs, [(words, "2023-11-14T22:13:20Z")])
@@ -438,7 +492,11 @@ def indications_in_the_status(scene):
         labels = [f'gateway_outstation_indication{{{outstation.labels},indication="{it}"}}' for it in INDICATIONS]
         figures = scene.figures()
         same(f"figures of bit {bit}", [figures.get(it) for it in labels], [it == name for it in INDICATIONS])
-        page, trouble = shown_at(scene, "/"), "<strong>TROUBLE:</strong> " if name in OF_TROUBLE else ""
-        same(f"the page of bit {bit}", re.findall("<td data-column=Indications>(.*?)</td>", page),
-             [f"{trouble}{name} <small>0x{1 << bit:04X}</small>"])
-        same(f"how all is with bit {bit}", "1 with trouble" in page, name in OF_TROUBLE)
+        page, is_wanted = shown_at(scene, "/"), " class=caution" if name == "NEED_TIME" else ""
+        same(f"the page of bit {bit}", re.findall(f"<td{is_wanted} data-column=Indications>(.*?)</td>", page),
+             [f"{name} <small>0x{1 << bit:04X}</small>"])
+        state = f" class=wrong data-column=State>trouble it tells itself: {name}" if name in OF_TROUBLE else \
+            " data-column=State>connected, all right"
+        same(f"the state of bit {bit}", re.findall("<td( [^<]*State>[^<]*?) <small>for", page), [state])
+        verdict = "Not all is well" if name in OF_TROUBLE else "Caution" if is_wanted else "All is well"
+        same(f"how all is with bit {bit}", re.findall("<title>(.*) - gateway</title>", page), [verdict])

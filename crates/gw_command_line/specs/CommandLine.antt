@@ -67,10 +67,14 @@ serve =
     fold with_rule (file_app (codes "run"))
     (number_rule (codes "sessions") ∷ texts_rule (codes "allow") ∷ flag_rule (codes "until-eof") ∷ [])
 
+-- the same with `[--site NAME] [--health-needs-centre]`
+abbrev pub shown : App
+shown = fold with_rule serve (text_rule (codes "site") ∷ flag_rule (codes "health-needs-centre") ∷ [])
+
 -- the same with `[--status ADDRESS:PORT] [--record FILE] [--record-size MB] [--names FILE]`
 abbrev pub run : App
 run =
-    fold with_rule serve
+    fold with_rule shown
     (text_rule (codes "status") ∷ text_rule (codes "record") ∷ number_rule (codes "record-size")
     ∷ text_rule (codes "names") ∷ [])
 
@@ -90,6 +94,8 @@ gateway =
 pub record Options : Type 0 where
   pub allow : List Text
   pub until_eof : Bool
+  pub site : Option Text
+  pub needs_centre : Bool
   pub status : Option Text
   pub «record» : Option Text
   pub record_size : ℕ
@@ -98,12 +104,23 @@ pub record Options : Type 0 where
 -- the same where none of them is used
 abbrev pub no_options : Options
 no_options =
-    record { allow = []; until_eof = false; status = None; «record» = None; record_size = 256; names = None }
+    record {
+      allow = [];
+      until_eof = false;
+      site = None;
+      needs_centre = false;
+      status = None;
+      «record» = None;
+      record_size = 256;
+      names = None;
+    }
 
 abbrev pub options_of : RunOptions → Options
 options_of options = record {
   allow = map (λ address. address.now) options.allow.items;
   until_eof = options.until_eof;
+  site = option_map (λ name. name.now) options.site;
+  needs_centre = options.needs_centre;
   status = option_map (λ address. address.now) options.status;
   «record» = option_map (λ file. file.now) options.record;
   record_size = options.record_size;
@@ -158,6 +175,8 @@ abbrev pub options_in : List Row → Options
 options_in rows = record {
   allow = texts_in (codes "allow") rows;
   until_eof = is_used (codes "until-eof") rows;
+  site = first_of (codes "site") rows;
+  needs_centre = is_used (codes "health-needs-centre") rows;
   status = first_of (codes "status") rows;
   «record» = first_of (codes "record") rows;
   record_size = unwrap_or (number_in (codes "record-size") rows) 256;

@@ -7,7 +7,7 @@ ghost use Rattle.std.specs.Prelude.{◌≡◌, [], IfErr, IfOk, Some, false, map
 ghost use Rattle.clap.specs.Words.{App, Rule, app_of, fault_of, first_of, found_of, rows_of, rule_of, subcommand_rows_of, with_rule, with_subcommand};
 ghost use Rattle.clap.specs.Walk.{texts};
 ghost use Rattle.clap.specs.declared.builder.command.Command.TheViews.{out-Command as fields_of};
-ghost use Rattle.gw_command_line.specs.CommandLine.{IsRefusal, alone, as_fault, asked_of, check, check_in, file_app, file_in, file_rule, flag_rule, gateway, is_used, number_from, number_in, number_of, number_rule, options_in, options_of, points, points_in, request_of, run, run_in, serve, spelled, text_rule, texts_in, texts_rule, translate};
+ghost use Rattle.gw_command_line.specs.CommandLine.{IsRefusal, alone, as_fault, asked_of, check, check_in, file_app, file_in, file_rule, flag_rule, gateway, is_used, number_from, number_in, number_of, number_rule, options_in, options_of, points, points_in, request_of, run, run_in, serve, shown, spelled, text_rule, texts_in, texts_rule, translate};
 ghost use Rattle.gw_command_line.specs.declared.reading.LineFault.TheVariants.{Memory};
 
 use clap::error::ErrorKind;
@@ -71,6 +71,10 @@ pub struct RunOptions<'a> {
     pub allow: Vec<&'a str>,
     /// `--until-eof`: the gateway ends in order when standard input ends.
     pub until_eof: bool,
+    /// `--site NAME`: the name of the site, which the status shows.
+    pub site: Option<&'a str>,
+    /// `--health-needs-centre`: the health is bad while no control centre transfers data.
+    pub needs_centre: bool,
     /// `--status ADDRESS:PORT`: where a status page is served.
     pub status: Option<&'a str>,
     /// `--record FILE`: the file to which the run is written as lines of a replay.
@@ -285,6 +289,26 @@ fn serve_command<'a>(alloc: Global) -> Result<Command<'a>, AllocError>
     with_argument(command, until_eof)
 }
 
+/// `gateway run`, with the options besides that say what the status shows.
+fn shown_command<'a>(alloc: Global) -> Result<Command<'a>, AllocError>
+    ensures app { IfOk result (λ command. app_of command ≡ shown) }
+    ensures local { IfOk result (λ command. (fields_of command).has_globals ≡ false) }
+{
+    let site = text_argument(
+        alloc,
+        "site",
+        "NAME",
+        "The name of the site, which the status shows",
+    );
+    let needs_centre = flag_argument(
+        alloc,
+        "health-needs-centre",
+        "The health is bad while no control centre transfers data",
+    );
+    let command = with_argument(serve_command(alloc), site);
+    with_argument(command, needs_centre)
+}
+
 /// `gateway run`.
 fn run_command<'a>(alloc: Global) -> Result<Command<'a>, AllocError>
     ensures app { IfOk result (λ command. app_of command ≡ run) }
@@ -309,7 +333,7 @@ fn run_command<'a>(alloc: Global) -> Result<Command<'a>, AllocError>
         "The most megabytes that the file of --record may have, 1 to 1000000; 256 where none are said",
     );
     let names = text_argument(alloc, "names", "FILE", "The list with the names to tell");
-    let command = with_argument(serve_command(alloc), status);
+    let command = with_argument(shown_command(alloc), status);
     let command = with_argument(command, record);
     let command = with_argument(command, record_size);
     with_argument(command, names)
@@ -444,6 +468,8 @@ fn options_named<'a>(alloc: Global, matches: &ArgMatches<'a>) -> Result<RunOptio
     Ok(RunOptions {
         allow: texts_named(alloc, matches, "allow")?,
         until_eof: flag_named(matches, "until-eof"),
+        site: text_named(matches, "site"),
+        needs_centre: flag_named(matches, "health-needs-centre"),
         status: text_named(matches, "status"),
         record: text_named(matches, "record"),
         record_size: number_named(matches, "record-size").unwrap_or(DEFAULT_RECORD_SIZE),

@@ -92,6 +92,9 @@ fn look_at_clients<R: Wait, C: Clock>(desk: &Desk<'_, R, C>, figures: &Figures, 
         tell_standing(desk, card, client, wall);
         tell_unknown(desk, card, client, wall);
         tell_dropped(desk, card, client, figures, wall);
+        if let Some(total) = figures.dropped.get(usize::from(client)) {
+            card.look(desk.rt, *total);
+        }
     }
 }
 
@@ -113,7 +116,7 @@ fn tell_standing<R: Wait, C: Clock>(
     }
     figures.told();
     desk.tell(JournalEvent::ClientConnected { client, address });
-    if figures.started {
+    if figures.transfers_since.is_some() {
         desk.tell(JournalEvent::TransferStarted { client, address });
     }
 }

@@ -2,7 +2,7 @@
 use Rattle.std.specs.Prelude.{ℕ, Bool, List, [], ◌∷◌, ◌++◌, codes, if◌then◌else◌, length}
 use Rattle.std.specs.Fmt.{decimal}
 use Rattle.gw_http.specs.declared.request.Resource.{Resource}
-use Rattle.gw_http.specs.declared.request.Resource.TheVariants.{Metrics, Page}
+use Rattle.gw_http.specs.declared.request.Resource.TheVariants.{Alive, Health, Metrics, Page}
 use Rattle.gw_http.specs.declared.request.RequestFault.{RequestFault}
 use Rattle.gw_http.specs.declared.request.RequestFault.TheVariants.{Malformed, NotAllowed, NotFound, TooLong}
 
@@ -30,6 +30,12 @@ message status content fields body is_head =
 abbrev pub content_of : Resource → List ℕ
 content_of Page = codes "text/html; charset=utf-8"
 content_of Metrics = codes "text/plain; version=0.0.4; charset=utf-8"
+content_of Alive = codes "text/plain; charset=utf-8"
+content_of Health = codes "text/plain; charset=utf-8"
+
+-- the status code of an answer, with its words: by whether what is asked about is well
+abbrev pub outcome_of : Bool → List ℕ
+outcome_of is_well = if is_well then codes "200 OK" else codes "503 Service Unavailable"
 
 -- the status code of a refusal, with its words
 abbrev pub line_of : RequestFault → List ℕ

@@ -6,7 +6,7 @@ use Rattle.std.specs.Str.{bytes_eq}
 use Rattle.httparse.specs.Grammar.{HasNoRequest, MayBecomeRequest, NeverHasRequest, ReadsRequest, RequestHead}
 use Rattle.httparse.specs.Spans.{RequestOverflows}
 use Rattle.gw_http.specs.declared.request.Resource.{Resource}
-use Rattle.gw_http.specs.declared.request.Resource.TheVariants.{Metrics, Page}
+use Rattle.gw_http.specs.declared.request.Resource.TheVariants.{Alive, Health, Metrics, Page}
 use Rattle.gw_http.specs.declared.request.RequestFault.{RequestFault}
 use Rattle.gw_http.specs.declared.request.RequestFault.TheVariants.{Malformed, NotAllowed, NotFound, TooLong}
 use Rattle.gw_http.specs.declared.request.HttpRequest.{HttpRequest}
@@ -50,6 +50,8 @@ abbrev pub found_at : List ℕ → Result Resource RequestFault
 found_at path =
     if bytes_eq path (codes "/") then Ok Page
     else if bytes_eq path (codes "/metrics") then Ok Metrics
+    else if bytes_eq path (codes "/alive") then Ok Alive
+    else if bytes_eq path (codes "/health") then Ok Health
     else Err NotFound
 
 abbrev pub is_head : List ℕ → Bool

@@ -1,17 +1,42 @@
 //! Answers to requests.
-ghost use Rattle.std.specs.Prelude.{◌≡◌, IfOk, [], codes, string_bytes};
-ghost use Rattle.gw_http.specs.Answers.{content_of, fields_of, line_of, message, refused_by, sent_of};
+ghost use Rattle.std.specs.Prelude.{◌≡◌, IfOk, [], string_bytes};
+ghost use Rattle.gw_http.specs.Answers.{content_of, fields_of, line_of, message, outcome_of, refused_by, sent_of};
 
 use crate::request::{RequestFault, Resource};
 use gw_model::Memory;
 use std::alloc::Global;
 
-/// The octets that answer a request with the body that it asks for.
-pub fn answer(alloc: Global, asked: Resource, is_head: bool, body: &str) -> Result<String, Memory>
+/// The octets that answer a request with the body that it asks for: as a success, or where what it asks about isn't well, as a
+/// failure of the server (RFC 9110, 15.6.4).
+pub fn answer(
+    alloc: Global,
+    asked: Resource,
+    is_head: bool,
+    is_well: bool,
+    body: &str,
+) -> Result<String, Memory>
     ensures { IfOk result (λ text. string_bytes text
-        ≡ message (codes "200 OK") (content_of asked) [] body.now is_head) }
+        ≡ message (outcome_of is_well) (content_of asked) [] body.now is_head) }
 {
-    message(alloc, "200 OK", content_of(asked), "", body, is_head)
+    message(
+        alloc,
+        outcome_of(is_well),
+        content_of(asked),
+        "",
+        body,
+        is_head,
+    )
+}
+
+/// The status code of an answer, with its words (RFC 9110, 15.3.1, 15.6.4).
+fn outcome_of(is_well: bool) -> &'static str
+    ensures { result.now ≡ outcome_of is_well }
+{
+    if is_well {
+        "200 OK"
+    } else {
+        "503 Service Unavailable"
+    }
 }
 
 /// The content type of what is asked for.
@@ -21,6 +46,7 @@ fn content_of(asked: Resource) -> &'static str
     match asked {
         Resource::Page => "text/html; charset=utf-8",
         Resource::Metrics => "text/plain; version=0.0.4; charset=utf-8",
+        Resource::Alive | Resource::Health => "text/plain; charset=utf-8",
     }
 }
 

@@ -11,6 +11,10 @@ pub enum Resource {
     Page,
     /// `/metrics`: the figures as Prometheus reads them.
     Metrics,
+    /// `/alive`: whether the core makes its ticks.
+    Alive,
+    /// `/health`: whether anything is wrong.
+    Health,
 }
 
 /// Why nothing is told.
@@ -115,6 +119,10 @@ fn found_at(path: &[u8]) -> Result<Resource, RequestFault>
         Ok(Resource::Page)
     } else if path == b"/metrics".as_slice() {
         Ok(Resource::Metrics)
+    } else if path == b"/alive".as_slice() {
+        Ok(Resource::Alive)
+    } else if path == b"/health".as_slice() {
+        Ok(Resource::Health)
     } else {
         Err(RequestFault::NotFound)
     }

@@ -1,10 +1,12 @@
 //! The figures of a place for a client.
 
 use crate::cause::Cause;
+use crate::minute::LastMinute;
 use crate::throttle::Throttle;
 use crate::unknown_asdu::{UnknownAsdu, UnknownAsdus};
+use gw_control::Refusal;
 use gw_station::Why;
-use gw_status::Closes;
+use gw_status::{ClientState, Closes, Refusals};
 use std::net::SocketAddr;
 
 /// The milliseconds between two tellings of dropped observations, and of ASDUs of unknown types.
@@ -18,14 +20,20 @@ pub struct ClientFigures {
     pub address: Option<SocketAddr>,
     /// Since when the connection stands, if one does, in milliseconds since 1970 in UTC.
     pub connected_since: Option<u64>,
-    /// Whether data transfer is started (STARTDT).
-    pub started: bool,
+    /// Since when data transfer is started (STARTDT), if it is.
+    pub transfers_since: Option<u64>,
     /// Why connections of this place ended.
     pub closes: Closes,
+    /// Why commands from this place were refused.
+    pub refusals: Refusals,
     /// Whether the connection was told of.
     is_told: bool,
     /// How many observations were dropped by the last look.
     dropped: u64,
+    /// How many were before the client had the place.
+    dropped_before: u64,
+    /// How many were by the looks of the last minute.
+    lately: LastMinute,
     dropped_told: Throttle,
     unknown_told: Throttle,
     /// The last ASDU of an unknown type that wasn't told.
@@ -43,7 +51,7 @@ impl ClientFigures {
         ClientFigures {
             address: None,
             connected_since: None,
-            started: false,
+            transfers_since: None,
             closes: Closes {
                 timer: 0,
                 sequence: 0,
@@ -52,8 +60,11 @@ impl ClientFigures {
                 flooded: 0,
                 lost: 0,
             },
+            refusals: Refusals::NOTHING,
             is_told: false,
             dropped: 0,
+            dropped_before: 0,
+            lately: LastMinute::new(),
             dropped_told: Throttle::new(MINUTE_MS),
             unknown_told: Throttle::new(MINUTE_MS),
             last_unknown: None,
@@ -64,7 +75,8 @@ impl ClientFigures {
     pub fn connected(&mut self, address: SocketAddr, wall: u64, is_told: bool) {
         self.address = Some(address);
         self.connected_since = Some(wall);
-        self.started = false;
+        self.transfers_since = None;
+        self.dropped_before = self.dropped;
         self.is_told = is_told;
         self.dropped_told = Throttle::new(MINUTE_MS);
         self.unknown_told = Throttle::new(MINUTE_MS);
@@ -75,7 +87,7 @@ impl ClientFigures {
     pub fn ended(&mut self, cause: &Cause) -> bool {
         self.address = None;
         self.connected_since = None;
-        self.started = false;
+        self.transfers_since = None;
         self.count(cause);
         self.is_told
     }
@@ -95,9 +107,11 @@ impl ClientFigures {
 
     /// The client transfers data from now on, or doesn't any more. Where it connects from, if that is new, and its
     /// connection was told of.
-    pub fn transfers(&mut self, starts: bool) -> Option<SocketAddr> {
-        let is_new = self.started != starts;
-        self.started = starts;
+    pub fn transfers(&mut self, wall: u64, starts: bool) -> Option<SocketAddr> {
+        let is_new = self.transfers_since.is_some() != starts;
+        if is_new {
+            self.transfers_since = starts.then_some(wall);
+        }
         if is_new && self.is_told {
             self.address
         } else {
@@ -120,6 +134,52 @@ impl ClientFigures {
         self.last_unknown = None;
         let left_out = count.saturating_sub(1);
         Some((address, UnknownAsdus { last, left_out }))
+    }
+
+    /// How it is, where so many observations were dropped at this place by now.
+    pub fn state(&self, dropped: u64) -> ClientState {
+        if self.address.is_none() {
+            return ClientState::Free;
+        }
+        match (self.transfers_since, self.dropped_of_client(dropped)) {
+            (None, _) => ClientState::ConnectedOnly,
+            (Some(_), 0) => ClientState::TransfersData,
+            (Some(_), count) => ClientState::ReadsTooSlowly(count),
+        }
+    }
+
+    /// How many observations were dropped in the last minute, where so many were by now.
+    pub fn dropped_lately(&self, dropped: u64) -> u64 {
+        self.lately.rise(dropped)
+    }
+
+    /// How many of these were of the client that is connected.
+    pub fn dropped_of_client(&self, dropped: u64) -> u64 {
+        let of_client = if self.address.is_some() {
+            dropped.saturating_sub(self.dropped_before)
+        } else {
+            0
+        };
+        of_client.min(self.dropped_lately(dropped))
+    }
+
+    /// A look, a second behind the one before, finds that so many observations were dropped at this place by now.
+    pub fn look(&mut self, dropped: u64) {
+        self.lately.look(dropped);
+    }
+
+    /// Counts why a command was refused.
+    pub fn refused(&mut self, refusal: Refusal) {
+        match refusal {
+            Refusal::NoState => add_one(&mut self.refusals.no_state),
+            Refusal::Qualifier => add_one(&mut self.refusals.qualifier),
+            Refusal::OutOfRange => add_one(&mut self.refusals.out_of_range),
+            Refusal::OutstationDown => add_one(&mut self.refusals.outstation_down),
+            Refusal::SelectedByAnother => add_one(&mut self.refusals.selected_by_another),
+            Refusal::NotSelected => add_one(&mut self.refusals.not_selected),
+            Refusal::UnlikeSelect => add_one(&mut self.refusals.unlike_select),
+            Refusal::NoPlace => add_one(&mut self.refusals.no_place),
+        }
     }
 
     /// Counts why a connection ended.

@@ -6,7 +6,9 @@ use crate::waiting::{Next, WaitingNotes};
 use gw_bell::Bell;
 use gw_model::Memory;
 use gw_names::Names;
+use gw_status::LeftOut;
 use std::alloc::Global;
+use std::sync::atomic::{AtomicBool, Ordering};
 use std::sync::{Mutex, Wait};
 
 /// Notes on their way to standard error. Whoever tells something doesn't wait for it to be written: at most 1,024 notes
@@ -15,6 +17,8 @@ use std::sync::{Mutex, Wait};
 pub struct Journal {
     waiting: Mutex<WaitingNotes>,
     bell: Bell,
+    /// Whether it was told that the record has ended.
+    has_record_ended: AtomicBool,
     /// Where the outstations are reached.
     places: Vec<String>,
     /// Whether each line has its priority in front.
@@ -30,6 +34,7 @@ impl Journal {
         Ok(Journal {
             waiting: Mutex::new(WaitingNotes::new(alloc)?),
             bell: Bell::new(),
+            has_record_ended: AtomicBool::new(false),
             places,
             with_priority,
             names: Names::new(alloc),
@@ -50,8 +55,21 @@ impl Journal {
 
     /// Tells what happened, and when, in milliseconds since 1970 in UTC.
     pub fn tell<R: Wait>(&self, rt: &R, wall: u64, event: JournalEvent) {
+        if let JournalEvent::RecordingEnded(_) = event {
+            self.has_record_ended.store(true, Ordering::SeqCst);
+        }
         self.waiting.lock(rt).add(Note { wall, event });
         self.bell.ring();
+    }
+
+    /// Whether it was told that the record has ended.
+    pub fn has_record_ended(&self) -> bool {
+        self.has_record_ended.load(Ordering::SeqCst)
+    }
+
+    /// How many notes found no room.
+    pub fn left_out<R: Wait>(&self, rt: &R) -> LeftOut {
+        self.waiting.lock(rt).left_out()
     }
 
     /// Nothing more is told.

@@ -2,6 +2,7 @@
 //! standard error; and the figures of outstations and clients, from which some of the events come.
 #![tactic(auto)]
 
+mod absence;
 mod cause;
 mod client_figures;
 mod command_words;
@@ -14,6 +15,7 @@ mod instant;
 mod journal;
 mod line_budget;
 mod loss;
+mod minute;
 mod note_line;
 mod outstation_figures;
 mod reason;
@@ -24,6 +26,7 @@ mod unknown_asdu;
 mod unreadable;
 mod waiting;
 
+pub use absence::Absence;
 pub use cause::Cause;
 pub use client_figures::ClientFigures;
 pub use control_event::{CommandEvent, OrderEvent};
@@ -34,7 +37,7 @@ pub use journal::Journal;
 pub use line_budget::LineBudget;
 pub use loss::Loss;
 pub use note_line::{Note, NoteLine};
-pub use outstation_figures::{DueNotes, Noticed, OutstationFigures, Refused};
+pub use outstation_figures::{DueNotes, Noticed, OutstationFigures, Refused, RequestPurpose};
 pub use reason::Reason;
 pub use reconnects::Reconnects;
 pub use stray::{StrayFrame, StrayFrames, Way};

@@ -1,5 +1,6 @@
 //! The figures of an outstation.
 
+use crate::absence::Absence;
 use crate::cause::Cause;
 use crate::failure::Failure;
 use crate::loss::Loss;
@@ -7,6 +8,7 @@ use crate::reconnects::Reconnects;
 use crate::stray::{StrayFrame, StrayFrames};
 use crate::throttle::Throttle;
 use crate::unreadable::Unreadable;
+use gw_status::{OutstationState, tell_of_trouble};
 
 /// The milliseconds between two tellings of unanswered requests, of skipped octets, and of stray frames.
 const MINUTE_MS: u64 = 60_000;
@@ -30,6 +32,12 @@ const OVERFLOW: u16 = 1 << 11;
 /// counts go on from one connection to the next.
 #[derive(Drop)]
 pub struct OutstationFigures {
+    /// How it is.
+    pub state: OutstationState,
+    /// Since when; nothing where it was so from the start.
+    pub state_since: Option<u64>,
+    /// Why no connection stands, or the last one ended.
+    pub absence: Absence,
     /// Since when a connection stands, if one does.
     pub connected_since: Option<u64>,
     /// When a fragment of it was taken last, if one was.
@@ -42,6 +50,8 @@ pub struct OutstationFigures {
     pub refused: u64,
     /// The octets of it that the link skipped.
     pub skipped: u64,
+    /// Its objects of kinds that aren't taken.
+    pub passed_over: u64,
     /// The internal indications of its last response, IIN1 in the low octet and IIN2 in the high one.
     pub indications: u16,
     /// The events that it reported.
@@ -50,8 +60,15 @@ pub struct OutstationFigures {
     before: u16,
     /// The number of the step that gave the last request.
     asked_by: u64,
-    /// Whether it writes the time.
-    writes_time: bool,
+    /// What it asks for, and what the one before did.
+    request: RequestPurpose,
+    earlier_request: RequestPurpose,
+    /// Whether an answer to a request for all that it has ended.
+    has_told_all: bool,
+    /// The number of the step of the last fragment on this connection, and of that by which a request on it ended without its
+    /// answer; 0 where there is none.
+    answered_by: u64,
+    unanswered_by: u64,
     /// How far the setting of the clock has come, and how far it had before the last request.
     setting: Setting,
     earlier_setting: Setting,
@@ -70,6 +87,23 @@ pub struct OutstationFigures {
     is_told: bool,
     /// What was noticed on connections that weren't told of.
     noticed: Noticed,
+}
+
+/// What a request asks for, as far as it matters here.
+#[derive(Clone, Copy)]
+pub struct RequestPurpose {
+    /// It writes the time.
+    pub writes_time: bool,
+    /// It asks for all that the outstation has.
+    pub asks_for_all: bool,
+}
+
+impl RequestPurpose {
+    /// Anything else.
+    const OTHER: RequestPurpose = RequestPurpose {
+        writes_time: false,
+        asks_for_all: false,
+    };
 }
 
 /// How far the setting of the outstation's clock has come.
@@ -152,17 +186,25 @@ impl OutstationFigures {
     /// milliseconds (`Reconnects`).
     pub fn new(calm_ms: u64) -> OutstationFigures {
         OutstationFigures {
+            state: OutstationState::NotConnected,
+            state_since: None,
+            absence: Absence::Untried,
             connected_since: None,
             last_answer: None,
             requests: 0,
             unanswered: 0,
             refused: 0,
             skipped: 0,
+            passed_over: 0,
             indications: 0,
             events: 0,
             before: 0,
             asked_by: 0,
-            writes_time: false,
+            request: RequestPurpose::OTHER,
+            earlier_request: RequestPurpose::OTHER,
+            has_told_all: false,
+            answered_by: 0,
+            unanswered_by: 0,
             setting: Setting::Idle,
             earlier_setting: Setting::Idle,
             unanswered_told: Throttle::new(MINUTE_MS),
@@ -183,6 +225,7 @@ impl OutstationFigures {
     pub fn connected(&mut self, wall: u64) -> bool {
         self.end();
         self.connected_since = Some(wall);
+        self.settle(wall);
         self.is_told = self.reconnects.begin(wall);
         self.is_told
     }
@@ -190,29 +233,35 @@ impl OutstationFigures {
     /// The connection is lost, and why; what is told of that at once, if something is.
     pub fn lost(&mut self, wall: u64, cause: Cause) -> Option<Loss> {
         self.end();
+        self.absence = Absence::Ended(cause);
+        self.settle(wall);
         self.reconnects.end(wall, cause, self.is_told)
     }
 
     /// No connection could be made. Where that is told, how many more weren't told before.
     pub fn unreached(&mut self, wall: u64, cause: Failure) -> Option<u64> {
+        self.absence = Absence::Unreached(cause);
         self.reconnects.unreached(wall, cause)
     }
 
     /// No connection stands.
     fn end(&mut self) {
         self.connected_since = None;
+        self.answered_by = 0;
+        self.unanswered_by = 0;
         self.before = 0;
         self.setting = Setting::Idle;
         self.earlier_setting = Setting::Idle;
     }
 
-    /// A request is sent, which the step of this number gave, and whether it writes the time.
-    pub fn asked(&mut self, step: u64, writes_time: bool) {
+    /// A request is sent, which the step of this number gave, and what it asks for.
+    pub fn asked(&mut self, step: u64, request: RequestPurpose) {
         self.requests = self.requests.saturating_add(1);
         self.asked_by = step;
-        self.writes_time = writes_time;
+        self.earlier_request = self.request;
+        self.request = request;
         self.earlier_setting = self.setting;
-        self.setting = self.setting.once_asked(writes_time);
+        self.setting = self.setting.once_asked(request.writes_time);
     }
 
     /// A fragment was taken by the step of this number: its internal indications, whether it ends the answer to a
@@ -228,10 +277,13 @@ impl OutstationFigures {
         let now = u16::from_le_bytes(indications);
         let before = self.before;
         let clock_not_set = self.ends(step, now, solicited_end);
+        self.has_told_all = self.has_told_all || solicited_end && self.was_asked_for_all(step);
+        self.answered_by = step;
         self.last_answer = Some(wall);
         self.indications = now;
         self.events = self.events.saturating_add(events);
         self.before = now;
+        self.settle(wall);
         self.once_told(Noticed {
             restarted: rises(RESTART, before, now),
             overflowed: rises(OVERFLOW, before, now),
@@ -248,10 +300,62 @@ impl OutstationFigures {
         Noticed::NOTHING
     }
 
-    /// The last request ended without its answer.
-    pub fn unanswered(&mut self) {
+    /// The last request ended without its answer, by the step of this number.
+    pub fn unanswered(&mut self, step: u64, wall: u64) {
         self.unanswered = self.unanswered.saturating_add(1);
         self.unanswered_told.add(1);
+        self.unanswered_by = step;
+        self.settle(wall);
+    }
+
+    /// Whether the request asked for all that a fragment may answer which the step of this number took.
+    fn was_asked_for_all(&self, step: u64) -> bool {
+        if step < self.asked_by {
+            self.earlier_request.asks_for_all
+        } else {
+            self.request.asks_for_all
+        }
+    }
+
+    /// Whether it has answered since it connected.
+    pub fn has_answered(&self) -> bool {
+        self.connected_since.is_some() && self.answered_by != 0
+    }
+
+    /// Whether it still asks for the time after it was written, and isn't polled while it does.
+    pub fn is_clock_not_set(&self) -> bool {
+        matches!(self.setting, Setting::Told)
+    }
+
+    /// Whether an answer to a request for all that it has ended.
+    pub fn has_told_all(&self) -> bool {
+        self.has_told_all
+    }
+
+    /// Notes how it is, and since when where that is new.
+    fn settle(&mut self, wall: u64) {
+        let state = self.judge();
+        if state != self.state {
+            self.state = state;
+            self.state_since = Some(wall);
+        }
+    }
+
+    /// How it is.
+    fn judge(&self) -> OutstationState {
+        if self.connected_since.is_none() {
+            OutstationState::NotConnected
+        } else if self.unanswered_by > self.answered_by {
+            OutstationState::NotAnswering
+        } else if self.answered_by == 0 {
+            OutstationState::NoAnswerYet
+        } else if self.is_clock_not_set() {
+            OutstationState::ClockNotSet
+        } else if tell_of_trouble(self.indications) {
+            OutstationState::Trouble
+        } else {
+            OutstationState::AllRight
+        }
     }
 
     /// What a fragment means for the request that it may answer; whether it is to be told that the clock isn't set.
@@ -272,7 +376,7 @@ impl OutstationFigures {
             .earlier_setting
             .once_answered(indications, solicited_end);
         self.earlier_setting = earlier;
-        self.setting = earlier.once_asked(self.writes_time);
+        self.setting = earlier.once_asked(self.request.writes_time);
         clock_not_set
     }
 
@@ -301,6 +405,7 @@ impl OutstationFigures {
 
     /// Objects came of kinds that aren't taken.
     pub fn passed_over(&mut self, objects: u64) {
+        self.passed_over = self.passed_over.saturating_add(objects);
         self.passed_over_told.add(objects);
     }
 

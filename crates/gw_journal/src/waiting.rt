@@ -4,6 +4,7 @@ use crate::event::JournalEvent;
 use crate::note_line::Note;
 use circular_buffer::HeapCircularBuffer;
 use gw_model::Memory;
+use gw_status::LeftOut;
 use std::alloc::Global;
 
 /// How many notes may wait.
@@ -17,33 +18,40 @@ pub const MOST_OF_CONTROLS: usize = 4096;
 pub struct WaitingNotes {
     /// Room for `MOST_OF_CONTROLS`, and for one that tells how many were left out.
     notes: HeapCircularBuffer<Note>,
-    others: LeftOut,
-    of_controls: LeftOut,
+    others: Untold,
+    of_controls: Untold,
     closed: bool,
 }
 
 /// The notes that found no room since the last one that did: how many, and when the last of them was.
 #[derive(Clone, Copy)]
-struct LeftOut {
+struct Untold {
     count: u64,
     at: u64,
+    /// How many found none in all.
+    in_all: u64,
 }
 
-impl LeftOut {
+impl Untold {
     /// None.
-    fn nothing() -> LeftOut {
-        LeftOut { count: 0, at: 0 }
+    fn nothing() -> Untold {
+        Untold {
+            count: 0,
+            at: 0,
+            in_all: 0,
+        }
     }
 
     /// One more, at a time.
     fn add(&mut self, wall: u64) {
         self.count = self.count.saturating_add(1);
+        self.in_all = self.in_all.saturating_add(1);
         self.at = wall;
     }
 
     /// How many there are and when the last of them was, if there is one; then there is none.
     fn take(&mut self) -> Option<(u64, u64)> {
-        let LeftOut { count, at } = *self;
+        let Untold { count, at, .. } = *self;
         self.count = 0;
         if count == 0 { None } else { Some((count, at)) }
     }
@@ -66,8 +74,8 @@ impl WaitingNotes {
         let notes = HeapCircularBuffer::with_capacity(alloc, MOST_OF_CONTROLS + 1)?;
         Ok(WaitingNotes {
             notes,
-            others: LeftOut::nothing(),
-            of_controls: LeftOut::nothing(),
+            others: Untold::nothing(),
+            of_controls: Untold::nothing(),
             closed: false,
         })
     }
@@ -107,6 +115,14 @@ impl WaitingNotes {
             self.notes.push_back(left_out);
         }
         self.notes.push_back(note);
+    }
+
+    /// How many found no room in all.
+    pub fn left_out(&self) -> LeftOut {
+        LeftOut {
+            of_controls: self.of_controls.in_all,
+            others: self.others.in_all,
+        }
     }
 
     /// No further note comes.

@@ -12,6 +12,7 @@ use gw_journal::{Failure, JournalEvent};
 use gw_model::Memory;
 use std::alloc::Global;
 use std::io::ErrorKind;
+use std::net::IpAddr;
 use std::rt::Clock as Sleeps;
 use std::sync::Wait;
 use std::thread;
@@ -116,9 +117,8 @@ fn accept_next<R: Wait + Sleeps, C: Clock>(
                 if reception.admit(Visit { stream, address }).is_err() {
                     desk.tell(JournalEvent::NotAccepted(Failure::Memory));
                 }
-            } else if let Some(left_out) = reception.refusals.ask(address.ip(), desk.clock.wall()) {
-                let address = address.ip();
-                desk.tell(JournalEvent::NotAllowed { address, left_out });
+            } else {
+                refuse(desk, &mut reception.refusals, address.ip());
             }
         }
         Err(error) if error.kind() == ErrorKind::WouldBlock => {}
@@ -126,6 +126,14 @@ fn accept_next<R: Wait + Sleeps, C: Clock>(
             desk.tell(JournalEvent::NotAccepted(Failure::from(error.kind())));
             thread::sleep(desk.rt, Duration::from_millis(PAUSE_MS));
         }
+    }
+}
+
+/// Counts somebody who isn't allowed, and tells of it, unless that was told not long ago.
+fn refuse<R: Wait, C: Clock>(desk: &Desk<'_, R, C>, refusals: &mut Refusals, address: IpAddr) {
+    desk.board.refuse_connection();
+    if let Some(left_out) = refusals.ask(address, desk.clock.wall()) {
+        desk.tell(JournalEvent::NotAllowed { address, left_out });
     }
 }
 

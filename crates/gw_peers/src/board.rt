@@ -3,13 +3,17 @@
 use crate::callers::Callers;
 use crate::hold::Hold;
 use crate::plan::Plan;
+use crate::points::Points;
+use crate::pulse::Pulse;
 use crate::reasons::Reasons;
 use crate::sequence::Sequence;
 use gw_journal::{ClientFigures, DueNotes, OutstationFigures, StrayFrame, UnknownAsdus, Way};
 use gw_map::Settings;
-use gw_model::Memory;
+use gw_model::{Memory, Report};
+use gw_status::PointStatus;
 use std::alloc::Global;
 use std::net::{IpAddr, SocketAddr};
+use std::sync::atomic::{AtomicU64, Ordering};
 use std::sync::{Mutex, Wait};
 
 /// The milliseconds of a minute.
@@ -19,16 +23,52 @@ const MINUTE_MS: u64 = 60_000;
 #[derive(Drop)]
 pub struct OutstationCard {
     pub figures: Mutex<OutstationFigures>,
+    /// Which of its points were told, where anybody may ask for that.
+    points: Option<Mutex<Points>>,
     /// From which link address to which its frames go.
     way: Way,
 }
 
 impl OutstationCard {
-    /// Nothing is known of an outstation that is reached this way.
-    fn new(plan: &Plan) -> OutstationCard {
+    /// Nothing is known of an outstation that is reached this way, and has these points.
+    fn new(plan: &Plan, points: Option<Points>) -> OutstationCard {
         OutstationCard {
             figures: Mutex::new(OutstationFigures::new(calm_ms(plan.silence_ms()))),
+            points: points.map(|points| Mutex::new(points)),
             way: plan.way(),
+        }
+    }
+
+    /// A fragment of it has these reports, and is about to be taken or refused.
+    pub fn reports<R: Wait>(&self, rt: &R, reports: &[Report]) {
+        if let Some(points) = &self.points {
+            points.lock(rt).note(reports);
+        }
+    }
+
+    /// The fragment was taken.
+    pub fn takes_reports<R: Wait>(&self, rt: &R) {
+        if let Some(points) = &self.points {
+            points.lock(rt).take();
+        }
+    }
+
+    /// The core counts it as lost.
+    pub fn loses_points<R: Wait>(&self, rt: &R) {
+        if let Some(points) = &self.points {
+            points.lock(rt).lose();
+        }
+    }
+
+    /// How many of its points were told; those that were never count where all were asked for.
+    pub fn point_status<R: Wait>(&self, rt: &R, were_asked_for: bool) -> PointStatus {
+        match &self.points {
+            Some(points) => points.lock(rt).status(were_asked_for),
+            None => PointStatus {
+                all: 0,
+                not_topical: 0,
+                never_told: 0,
+            },
         }
     }
 
@@ -129,21 +169,26 @@ impl ClientCard {
     }
 
     /// The client has started data transfer; where it connects from, if that is to be told.
-    pub fn starts<R: Wait>(&self, rt: &R) -> Option<SocketAddr> {
+    pub fn starts<R: Wait>(&self, rt: &R, wall: u64) -> Option<SocketAddr> {
         self.hold.lock(rt).start();
-        self.transfers(rt, true)
+        self.transfers(rt, wall, true)
     }
 
     /// The client has stopped data transfer at a moment; where it connects from, if that is to be told.
-    pub fn stops<R: Wait>(&self, rt: &R, moment: u64) -> Option<SocketAddr> {
+    pub fn stops<R: Wait>(&self, rt: &R, wall: u64, moment: u64) -> Option<SocketAddr> {
         self.hold.lock(rt).stop(moment);
-        self.transfers(rt, false)
+        self.transfers(rt, wall, false)
     }
 
     /// The client transfers data from now on, or doesn't any more; where it connects from, if that is to be told.
-    fn transfers<R: Wait>(&self, rt: &R, starts: bool) -> Option<SocketAddr> {
+    fn transfers<R: Wait>(&self, rt: &R, wall: u64, starts: bool) -> Option<SocketAddr> {
         self.reasons.lock(rt).clear();
-        self.figures.lock(rt).transfers(starts)
+        self.figures.lock(rt).transfers(wall, starts)
+    }
+
+    /// A look, a second behind the one before, finds that so many observations were dropped at this place by now.
+    pub fn look<R: Wait>(&self, rt: &R, dropped: u64) {
+        self.figures.lock(rt).look(dropped);
     }
 }
 
@@ -156,31 +201,46 @@ pub struct Board {
     pub callers: Mutex<Callers>,
     /// Of which steps it was told.
     pub sequence: Sequence,
+    /// When the core made its last tick.
+    pub pulse: Pulse,
+    /// How many connections weren't allowed.
+    not_allowed: AtomicU64,
     /// For how many milliseconds nothing comes from a client before it is tested (t3).
     silence_ms: u64,
 }
 
 impl Board {
-    /// Nothing is known of the outstations that are reached on these ways, and of so many clients.
+    /// Nothing is known at a moment of the outstations that are reached on these ways, and of so many clients. Their points are
+    /// known where that is shown.
     pub fn new(
         alloc: Global,
         settings: &Settings,
         plans: &[Plan],
         clients: u8,
+        is_shown: bool,
+        moment: u64,
     ) -> Result<Board, Memory> {
-        let mut cards = Vec::with_capacity(alloc, plans.len())?;
-        for plan in plans {
-            cards.push(OutstationCard::new(plan))?;
-        }
         let (t1_ms, t3_ms) = client_times(settings);
         let callers = Callers::new(alloc, calm_ms(t3_ms.saturating_add(t1_ms)));
         Ok(Board {
-            outstations: cards,
+            outstations: outstation_cards(alloc, settings, plans, is_shown)?,
             clients: client_cards(alloc, clients)?,
             callers: Mutex::new(callers),
             sequence: Sequence::new(alloc, plans.len(), usize::from(clients))?,
+            pulse: Pulse::new(moment),
+            not_allowed: AtomicU64::new(0),
             silence_ms: t3_ms,
         })
+    }
+
+    /// One more connection wasn't allowed.
+    pub fn refuse_connection(&self) {
+        self.not_allowed.fetch_add(1, Ordering::SeqCst);
+    }
+
+    /// How many connections weren't allowed.
+    pub fn not_allowed(&self) -> u64 {
+        self.not_allowed.load(Ordering::SeqCst)
     }
 
     /// The outstations, by their positions.
@@ -240,6 +300,25 @@ fn calm_ms(silence_ms: u64) -> u64 {
 fn client_times(settings: &Settings) -> (u64, u64) {
     let station = settings.station();
     (u64::from(station.t1_ms), u64::from(station.t3_ms))
+}
+
+/// The outstations that are reached on these ways, of which nothing is known.
+fn outstation_cards(
+    alloc: Global,
+    settings: &Settings,
+    plans: &[Plan],
+    is_shown: bool,
+) -> Result<Vec<OutstationCard>, Memory> {
+    let mut cards = Vec::with_capacity(alloc, plans.len())?;
+    for (position, plan) in plans.iter().enumerate() {
+        let points = if is_shown {
+            Some(Points::of(alloc, settings, position)?)
+        } else {
+            None
+        };
+        cards.push(OutstationCard::new(plan, points))?;
+    }
+    Ok(cards)
 }
 
 /// So many places of which nothing is known.

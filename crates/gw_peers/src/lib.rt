@@ -13,6 +13,8 @@ mod input;
 mod lobby;
 mod network;
 mod plan;
+mod points;
+mod pulse;
 mod reasons;
 mod refusals;
 mod sequence;

@@ -23,6 +23,10 @@ pub struct Plan {
     pub own: u16,
     /// The link address of the outstation.
     pub peer: u16,
+    /// The common address of its points.
+    pub common_address: u16,
+    /// Whether it is given the time where it asks for it.
+    pub is_given_time: bool,
     /// How long it may be silent while it is polled.
     pub silence: Duration,
     /// How long a response may take, and so a write.
@@ -106,6 +110,8 @@ pub fn plans_of(alloc: Global, settings: &Settings) -> Result<Vec<Plan>, Memory>
             connect: outstation.connect.clone()?,
             own,
             peer: outstation.address,
+            common_address: outstation.common_address,
+            is_given_time: poll.lan_time,
             silence: Duration::from_millis(silence),
             response: Duration::from_millis(poll.response_ms),
         })?;

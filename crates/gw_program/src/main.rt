@@ -1,6 +1,7 @@
 //! The gateway's programs.
 #![tactic(auto)]
 
+mod commit;
 mod failure_of_file;
 mod lists;
 mod obstacle;
@@ -8,6 +9,7 @@ mod recording;
 mod refusal;
 mod running;
 mod settings_file;
+mod shown;
 
 use crate::lists::{Named, points, refuse_list};
 use crate::refusal::{REFUSED, refuse, refuse_file, refuse_for, refuse_octets};

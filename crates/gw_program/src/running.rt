@@ -6,6 +6,7 @@ use crate::obstacle::{Obstacle, failure_at};
 use crate::recording::{Recording, tell_end};
 use crate::refusal::{complain, refuse_file, refuse_for};
 use crate::settings_file::{BadFile, read_octets};
+use crate::shown::Shown;
 use gw_capture::Capture;
 use gw_checker::{Warning, read_settings, warnings_of};
 use gw_command_line::{RunOptions, VERSION};
@@ -99,17 +100,21 @@ fn serve_file<'a, H: Host>(
     let (settings, source) = read_source(rt, file)?;
     let Named { names, .. } = Named::read(rt, &settings, asked.names)?;
     let clock = SystemClock::new(host);
+    let shown = Shown::of(rt, asked.status.is_some());
     let (entrances, journal) = begin(rt, host, &clock, &settings, source, names, asked)?;
     let site = Site {
         alloc: rt.alloc(),
         host,
         listener: &entrances.listener,
         options: Options {
-            version: VERSION,
+            identity: shown.identity(asked.site, file, source.digest),
             sessions,
             allow: &entrances.allow,
             until_eof: asked.until_eof.then_some(rt.stdin()),
             status: entrances.status.as_ref(),
+            needs_centre: asked.needs_centre,
+            is_recorded: asked.record.is_some(),
+            process: shown.process(),
         },
         journal: &journal,
         clock: &clock,

@@ -11,6 +11,9 @@ use gw_model::Memory;
 use gw_peers::{Lobby, await_end};
 use gw_watch::{CLIENTS, Site, serve_status};
 
+/// How many threads serve the status: a request that comes slowly, or whose answer is taken slowly, keeps one of them.
+const STATUS_THREADS: u8 = 4;
+
 /// What one thread does, until the server ends.
 #[derive(Drop)]
 pub enum Duty<L: Course> {
@@ -18,7 +21,7 @@ pub enum Duty<L: Course> {
     Journal,
     /// Tells what is due once in a while.
     Lookout,
-    /// Serves the status.
+    /// Serves the status, beside others.
     Status,
     /// Makes the ticks.
     Clock(Pass<L>),
@@ -161,7 +164,9 @@ fn add_outstations<L: Course>(
 /// Adds the duties of the status, the lookout and the journal.
 fn add_others<L: Course>(duties: &mut Vec<Duty<L>>, site: &Site<'_>) -> Result<(), Memory> {
     if site.status.is_some() {
-        add(duties, Duty::Status)?;
+        for _ in 0..STATUS_THREADS {
+            add(duties, Duty::Status)?;
+        }
     }
     add(duties, Duty::Lookout)?;
     add(duties, Duty::Journal)

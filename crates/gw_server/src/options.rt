@@ -1,14 +1,15 @@
 //! What is said of a run beside its settings.
 
-use gw_peers::{Door, Network};
+use gw_peers::{Door, Network, Plan};
+use gw_watch::{Identity, ProcessFiles, Site};
 use std::io::Stdin;
 use std::net::TcpListener;
 
 /// What is said of a run beside its settings.
 #[derive(Clone, Copy)]
 pub struct Options<'a> {
-    /// The gateway's version.
-    pub version: &'static str,
+    /// Which gateway this is.
+    pub identity: Identity<'a>,
     /// How many connections of control centres are served, if that is bounded.
     pub sessions: Option<u32>,
     /// Where clients may come from; from everywhere where none is named.
@@ -17,6 +18,12 @@ pub struct Options<'a> {
     pub until_eof: Option<Stdin>,
     /// Where the status is served, if it is.
     pub status: Option<&'a TcpListener>,
+    /// Whether it is wrong that no control centre transfers data.
+    pub needs_centre: bool,
+    /// Whether steps are to be taken down.
+    pub is_recorded: bool,
+    /// Where the system tells what the process takes, if it does.
+    pub process: Option<&'a ProcessFiles>,
 }
 
 impl<'a> Options<'a> {
@@ -27,6 +34,23 @@ impl<'a> Options<'a> {
             sessions: self.sessions,
             allow: self.allow,
             until_eof: self.until_eof,
+        }
+    }
+
+    /// What is served to those who connect to a listener, on these ways to the outstations, from a time on.
+    pub fn site(&self, listener: &'a TcpListener, plans: &'a [Plan], started: u64) -> Site<'a> {
+        Site {
+            door: self.door(listener),
+            plans,
+            identity: Identity {
+                listen: listener.local_addr().ok(),
+                ..self.identity
+            },
+            needs_centre: self.needs_centre,
+            is_recorded: self.is_recorded,
+            process: self.process,
+            status: self.status,
+            started,
         }
     }
 }

@@ -19,13 +19,23 @@ use gw_model::Memory;
 use gw_peers::{Board, Desk, Lobby, Plan, accept, plans_of};
 use gw_running::close;
 use gw_shared::{Made, Opened, open_course};
-use gw_watch::{CLIENTS, Site, Watched};
+use gw_watch::{CLIENTS, Identity, Site, Watched};
 use std::alloc::Global;
 use std::io;
 use std::marker::Brand;
 use std::net::TcpListener;
 use std::sync::ledger::Blank;
 use std::thread::{self, JoinHandle, Scope, Threads};
+
+/// Which gateway it is where that isn't said.
+const NOBODY: Identity<'static> = Identity {
+    site: None,
+    file: "",
+    digest: [0; 32],
+    listen: None,
+    version: "",
+    commit: None,
+};
 
 /// Listens where the settings say.
 pub fn open<R: Host>(rt: &R, settings: &Settings) -> io::Result<TcpListener> {
@@ -52,11 +62,14 @@ pub fn serve<R: Host, C: Clock + Sync, G: Gate + Sync>(
 {
     let journal = journal_of(alloc, &settings, false)?;
     let options = Options {
-        version: "",
+        identity: NOBODY,
         sessions,
         allow: &[],
         until_eof: None,
         status: None,
+        needs_centre: false,
+        is_recorded: false,
+        process: None,
     };
     serve_as(
         alloc, rt, settings, listener, options, &journal, clock, gate,
@@ -93,14 +106,13 @@ pub fn serve_as<R: Host, C: Clock + Sync, G: Gate + Sync>(
 ) -> Result<Closed, Memory>
     ensures { IfOk result (λ closed. IsKeptRun settings closed.total) }
 {
-    let (plans, board) = plans_and_board(alloc, &settings)?;
-    let site = Site {
-        door: options.door(listener),
-        plans: &plans,
-        version: options.version,
-        status: options.status,
-        started: clock.wall(),
-    };
+    let (plans, board) = plans_and_board(
+        alloc,
+        &settings,
+        options.status.is_some(),
+        clock.moment(),
+    )?;
+    let site = options.site(listener, &plans, clock.wall());
     let desk = Desk {
         alloc,
         rt,
@@ -116,10 +128,16 @@ pub fn serve_as<R: Host, C: Clock + Sync, G: Gate + Sync>(
     serve_with::<Brand, R, C, G>(&desk, &site, blank, history, opening, gate)
 }
 
-/// The ways to the outstations, and a board with a card for each of them and for each client.
-fn plans_and_board(alloc: Global, settings: &Settings) -> Result<(Vec<Plan>, Board), Memory> {
+/// The ways to the outstations, and a board with a card for each of them and for each client, at a moment; with the points
+/// where it is shown.
+fn plans_and_board(
+    alloc: Global,
+    settings: &Settings,
+    is_shown: bool,
+    moment: u64,
+) -> Result<(Vec<Plan>, Board), Memory> {
     let plans = plans_of(alloc, settings)?;
-    let board = Board::new(alloc, settings, &plans, CLIENTS)?;
+    let board = Board::new(alloc, settings, &plans, CLIENTS, is_shown, moment)?;
     Ok((plans, board))
 }
 

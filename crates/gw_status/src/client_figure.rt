@@ -74,7 +74,7 @@ impl ClientFigure {
         match self {
             ClientFigure::Connected => Some(Figure::yes_or_no(client.address.is_some())),
             ClientFigure::ConnectedSince => Some(Figure::Time(client.connected_since?)),
-            ClientFigure::DataTransfer => Some(Figure::yes_or_no(client.session)),
+            ClientFigure::DataTransfer => Some(Figure::yes_or_no(client.state.transfers())),
             ClientFigure::Unacknowledged => Some(Figure::Count(client.unacknowledged)),
             ClientFigure::Queued => Some(Figure::Count(client.queued)),
             ClientFigure::Dropped => Some(Figure::Count(client.dropped)),
@@ -192,5 +192,47 @@ fn write_close<W: fmt::Write>(
     writeln!(
         f,
         "gateway_client_closes_total{{client=\"{number}\",cause=\"{cause}\"}} {count}"
+    )
+}
+
+/// Why commands from each place were refused.
+#[derive(Clone, Copy)]
+pub struct RefusalCauses<'a>(pub &'a [ClientStatus]);
+
+impl<'a> fmt::Display for RefusalCauses<'a> {
+    fn fmt<W: fmt::Write>(&self, f: &mut fmt::Formatter<W>) -> fmt::Result {
+        f.write_str(
+            "# HELP gateway_client_refused_commands_total Commands for controls from this place that were refused, by cause.\n\
+            # TYPE gateway_client_refused_commands_total counter\n",
+        )?;
+        for (number, client) in self.0.iter().enumerate() {
+            write_refusals(f, number, &client.refusals.by_cause())?;
+        }
+        Ok(())
+    }
+}
+
+/// Writes why commands from a place were refused.
+fn write_refusals<W: fmt::Write>(
+    f: &mut fmt::Formatter<W>,
+    number: usize,
+    refusals: &[(&'static str, u64)],
+) -> fmt::Result {
+    for (cause, count) in refusals {
+        write_refusal(f, number, cause, *count)?;
+    }
+    Ok(())
+}
+
+/// Writes how many commands from a place were refused for a cause.
+fn write_refusal<W: fmt::Write>(
+    f: &mut fmt::Formatter<W>,
+    number: usize,
+    cause: &str,
+    count: u64,
+) -> fmt::Result {
+    writeln!(
+        f,
+        "gateway_client_refused_commands_total{{client=\"{number}\",cause=\"{cause}\"}} {count}"
     )
 }

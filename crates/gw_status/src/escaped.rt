@@ -34,6 +34,15 @@ impl<'a> Escaped<'a> {
         }
     }
 
+    /// A text as a line has it: its control characters alone are escaped.
+    pub fn plain(text: &'a str) -> Escaped<'a> {
+        Escaped {
+            text,
+            escapes: &[],
+            before_backslash: "",
+        }
+    }
+
     /// A text as the value of a label of Prometheus, without its quotation marks. Of the backslashes of
     /// `escape_default` each is one of the value itself, but that of a line feed.
     pub fn label(text: &'a str) -> Escaped<'a> {

@@ -27,6 +27,9 @@ const MEANT: &[&str] = &[
 /// Those that tell of something that is wrong: IIN1.6, IIN2.0 to IIN2.3 and IIN2.5.
 const TROUBLES: u16 = 0x2F40;
 
+/// IIN1.4.
+const NEED_TIME: u16 = 1 << 4;
+
 /// The name of a bit.
 pub fn name_of(bit: u32) -> &'static str {
     match MEANT.get(bit as usize) {
@@ -42,9 +45,19 @@ pub fn is_set(indications: u16, bit: u32) -> bool
     indications >> bit & 1 == 1
 }
 
+/// Those of them that tell of something that is wrong.
+pub fn trouble_in(indications: u16) -> u16 {
+    indications & TROUBLES
+}
+
 /// Whether they tell of something that is wrong.
 pub fn tell_of_trouble(indications: u16) -> bool {
-    indications & TROUBLES != 0
+    trouble_in(indications) != 0
+}
+
+/// Whether they ask for the time (IIN1.4).
+pub fn ask_for_time(indications: u16) -> bool {
+    indications & NEED_TIME != 0
 }
 
 /// The names of those that are set, as `NEED_TIME, RESTART`; `none` where none is.

@@ -1,5 +1,5 @@
-//! What can be told of a running gateway: the figures of its outstations and clients, as Prometheus reads them and as a
-//! page for people.
+//! What can be told of a running gateway: how well all is, and the figures of its outstations and clients, as Prometheus
+//! reads them and as a page for people.
 #![tactic(auto)]
 
 mod client_figure;
@@ -10,10 +10,17 @@ mod metrics;
 mod outstation_figure;
 mod page;
 mod rows;
+mod state;
 mod status;
-mod summary;
 mod time;
+mod verdict;
 
+pub use indications::tell_of_trouble;
 pub use metrics::Metrics;
 pub use page::Page;
-pub use status::{ClientStatus, Closes, OrderStatus, OutstationStatus, Status};
+pub use state::{ClientState, OutstationState};
+pub use status::{
+    ClientStatus, Closes, Identity, LeftOut, OrderStatus, OutstationStatus, PointStatus,
+    ProcessStatus, Refusals, Status,
+};
+pub use verdict::{Health, Life, Verdict, is_alive};

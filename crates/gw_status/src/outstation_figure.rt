@@ -11,12 +11,18 @@ use std::fmt;
 pub enum OutstationFigure {
     Connected,
     ConnectedSince,
+    Answered,
     LastAnswer,
     Requests,
     Unanswered,
     Refused,
     Skipped,
+    PassedOver,
     Events,
+    ClockNotSet,
+    Points,
+    NotTopical,
+    NeverTold,
     Accepted,
     Done,
     Failed,
@@ -40,6 +46,14 @@ pub const OUTSTATION_FIGURES: &[(OutstationFigure, Family)] = &[
             kind: Kind::Gauge,
             name: "gateway_outstation_connection_start_time_seconds",
             help: "Unix time since which the connection stands.",
+        },
+    ),
+    (
+        OutstationFigure::Answered,
+        Family {
+            kind: Kind::Gauge,
+            name: "gateway_outstation_answered",
+            help: "Whether the outstation has answered since it connected.",
         },
     ),
     (
@@ -83,11 +97,51 @@ pub const OUTSTATION_FIGURES: &[(OutstationFigure, Family)] = &[
         },
     ),
     (
+        OutstationFigure::PassedOver,
+        Family {
+            kind: Kind::Counter,
+            name: "gateway_outstation_passed_over_objects_total",
+            help: "Objects of the outstation of kinds that aren't taken.",
+        },
+    ),
+    (
         OutstationFigure::Events,
         Family {
             kind: Kind::Counter,
             name: "gateway_outstation_events_total",
             help: "Events that the outstation reported.",
+        },
+    ),
+    (
+        OutstationFigure::ClockNotSet,
+        Family {
+            kind: Kind::Gauge,
+            name: "gateway_outstation_clock_not_set",
+            help: "Whether the outstation isn't polled since its clock can't be set.",
+        },
+    ),
+    (
+        OutstationFigure::Points,
+        Family {
+            kind: Kind::Gauge,
+            name: "gateway_outstation_points",
+            help: "Points of the outstation.",
+        },
+    ),
+    (
+        OutstationFigure::NotTopical,
+        Family {
+            kind: Kind::Gauge,
+            name: "gateway_outstation_not_topical_points",
+            help: "Points whose last value isn't topical.",
+        },
+    ),
+    (
+        OutstationFigure::NeverTold,
+        Family {
+            kind: Kind::Gauge,
+            name: "gateway_outstation_never_told_points",
+            help: "Points that no response had, though all were asked for.",
         },
     ),
 ];
@@ -147,10 +201,16 @@ impl OutstationFigure {
                 return Some(Figure::Time(outstation.connected_since?));
             }
             OutstationFigure::LastAnswer => return Some(Figure::Time(outstation.last_answer?)),
+            OutstationFigure::Answered => u64::from(outstation.has_answered),
+            OutstationFigure::ClockNotSet => u64::from(outstation.is_clock_not_set),
+            OutstationFigure::Points => outstation.points.all,
+            OutstationFigure::NotTopical => outstation.points.not_topical,
+            OutstationFigure::NeverTold => outstation.points.never_told,
             OutstationFigure::Requests => outstation.requests,
             OutstationFigure::Unanswered => outstation.unanswered,
             OutstationFigure::Refused => outstation.refused,
             OutstationFigure::Skipped => outstation.skipped,
+            OutstationFigure::PassedOver => outstation.passed_over,
             OutstationFigure::Events => outstation.events,
             OutstationFigure::Accepted => outstation.orders.accepted,
             OutstationFigure::Done => outstation.orders.done,
@@ -217,7 +277,10 @@ impl<'a> fmt::Display for Labels<'a> {
     fn fmt<W: fmt::Write>(&self, f: &mut fmt::Formatter<W>) -> fmt::Result {
         let Labels { number, outstation } = *self;
         let place = Escaped::label(outstation.place.as_str());
-        write!(f, "outstation=\"{number}\",place=\"{place}\"")?;
+        write!(
+            f,
+            "outstation=\"{number}\",place=\"{place}\",target=\"{place}\""
+        )?;
         let name = outstation.name.as_str();
         if name.is_empty() {
             Ok(())
@@ -276,5 +339,47 @@ fn write_indication<W: fmt::Write>(
     writeln!(
         f,
         "gateway_outstation_indication{{{labels},indication=\"{name}\"}} {is_set}"
+    )
+}
+
+/// How the orders of the outstations ended.
+#[derive(Clone, Copy)]
+pub struct OrderOutcomes<'a>(pub &'a [OutstationStatus]);
+
+impl<'a> fmt::Display for OrderOutcomes<'a> {
+    fn fmt<W: fmt::Write>(&self, f: &mut fmt::Formatter<W>) -> fmt::Result {
+        f.write_str(
+            "# HELP gateway_outstation_order_outcomes_total Orders for the outstation that ended, by how they did.\n\
+            # TYPE gateway_outstation_order_outcomes_total counter\n",
+        )?;
+        for (number, outstation) in self.0.iter().enumerate() {
+            write_outcomes(f, number, outstation)?;
+        }
+        Ok(())
+    }
+}
+
+/// Writes how the orders of an outstation ended.
+fn write_outcomes<W: fmt::Write>(
+    f: &mut fmt::Formatter<W>,
+    number: usize,
+    outstation: &OutstationStatus,
+) -> fmt::Result {
+    for (outcome, count) in &outstation.orders.by_outcome() {
+        write_outcome(f, Labels { number, outstation }, outcome, *count)?;
+    }
+    Ok(())
+}
+
+/// Writes how many orders of an outstation ended so.
+fn write_outcome<W: fmt::Write>(
+    f: &mut fmt::Formatter<W>,
+    labels: Labels<'_>,
+    outcome: &str,
+    count: u64,
+) -> fmt::Result {
+    writeln!(
+        f,
+        "gateway_outstation_order_outcomes_total{{{labels},outcome=\"{outcome}\"}} {count}"
     )
 }

@@ -1,8 +1,9 @@
 //! The rows of the page's tables. Each cell has the words above its column, which a narrow screen shows beside it.
 
 use crate::escaped::Escaped;
-use crate::indications::{Names, tell_of_trouble};
-use crate::status::{ClientStatus, OutstationStatus};
+use crate::indications::{Names, ask_for_time};
+use crate::state::{Before, ClientState, ClientWords, OutstationWords};
+use crate::status::{ClientStatus, OutstationStatus, PointStatus};
 use crate::time::{Moment, Span};
 use std::fmt;
 use std::net::SocketAddr;
@@ -30,31 +31,48 @@ fn write_outstation<W: fmt::Write>(
     outstation: &OutstationStatus,
     now: u64,
 ) -> fmt::Result {
-    let place = Place(outstation);
-    let connection = Connection {
-        since: outstation.connected_since,
-        now,
-    };
-    let answer = LastAnswer {
-        at: outstation.last_answer,
-        indications: outstation.indications,
-        now,
-    };
-    let counts = [
-        ("Events", outstation.events),
-        ("Requests", outstation.requests),
-        ("Unanswered", outstation.unanswered),
-        ("Refused fragments", outstation.refused),
-        ("Skipped octets", outstation.skipped),
+    let not_taken = [
+        ("fragments refused", outstation.refused),
+        ("octets skipped", outstation.skipped),
+        ("objects passed over", outstation.passed_over),
     ];
     let orders = outstation.orders.by_fate();
     write!(
         f,
-        "<tr><th scope=row><i>{number}</i> {place}</th>{connection}{answer}\
-        {}<td data-column=Orders>{}</td></tr>\n",
-        Counts(&counts),
+        "{}{}{}{}{}{}<td data-column=\"Not taken\">{}</td><td data-column=Orders>{}</td></tr>\n",
+        Reached { number, outstation },
+        StateCell { outstation, now },
+        AnswerCells { outstation, now },
+        PointCell(outstation.points),
+        Counts(&[("Events", outstation.events)]),
+        RequestCell(outstation),
+        Parts(&not_taken),
         Parts(&orders)
     )
+}
+
+/// The number of an outstation, where it is reached, and its addresses.
+#[derive(Clone, Copy)]
+struct Reached<'a> {
+    number: usize,
+    outstation: &'a OutstationStatus,
+}
+
+impl<'a> fmt::Display for Reached<'a> {
+    fn fmt<W: fmt::Write>(&self, f: &mut fmt::Formatter<W>) -> fmt::Result {
+        let OutstationStatus {
+            address,
+            common_address,
+            ..
+        } = self.outstation;
+        write!(
+            f,
+            "<tr><th scope=row><i>{}</i> {} <small>link address {address}</small> \
+            <small>common address {common_address}</small></th>",
+            self.number,
+            Place(self.outstation)
+        )
+    }
 }
 
 /// Where an outstation is reached, behind its name where it has one.
@@ -82,53 +100,47 @@ fn write_named<W: fmt::Write>(
     write!(f, "{name} <small>{place}</small>")
 }
 
-/// The cell that tells whether an outstation is connected, and since when, at a moment.
+/// The cell that tells how it is with an outstation, and since when, at a moment.
 #[derive(Clone, Copy)]
-struct Connection {
-    since: Option<u64>,
+struct StateCell<'a> {
+    outstation: &'a OutstationStatus,
     now: u64,
 }
 
-impl fmt::Display for Connection {
+impl<'a> fmt::Display for StateCell<'a> {
     fn fmt<W: fmt::Write>(&self, f: &mut fmt::Formatter<W>) -> fmt::Result {
-        match self.since {
-            Some(since) => write_connected(f, Span(self.now.saturating_sub(since)), Moment(since)),
-            None => f.write_str("<td data-column=State><strong>NOT CONNECTED</strong></td>"),
-        }
+        let StateCell { outstation, now } = *self;
+        let since = outstation.state_since;
+        let class = if outstation.state.is_all_right() {
+            ""
+        } else {
+            "class=wrong "
+        };
+        write!(
+            f,
+            "<td {class}data-column=State>{}{} <small>for {}</small> <small>since {}</small></td>",
+            OutstationWords(outstation),
+            Before(outstation),
+            Span(now.saturating_sub(since)),
+            Moment(since)
+        )
     }
-}
-
-/// Writes for how long an outstation is connected, and since when.
-fn write_connected<W: fmt::Write>(
-    f: &mut fmt::Formatter<W>,
-    span: Span,
-    since: Moment,
-) -> fmt::Result {
-    write!(
-        f,
-        "<td data-column=State>connected <small>for {span}</small> <small>since {since}</small></td>"
-    )
 }
 
 /// The cells that tell when an outstation answered last, and what it indicated, at a moment.
 #[derive(Clone, Copy)]
-struct LastAnswer {
-    at: Option<u64>,
-    indications: u16,
+struct AnswerCells<'a> {
+    outstation: &'a OutstationStatus,
     now: u64,
 }
 
-impl fmt::Display for LastAnswer {
+impl<'a> fmt::Display for AnswerCells<'a> {
     fn fmt<W: fmt::Write>(&self, f: &mut fmt::Formatter<W>) -> fmt::Result {
-        let LastAnswer {
-            at,
-            indications,
-            now,
-        } = *self;
-        match at {
+        let AnswerCells { outstation, now } = *self;
+        match outstation.last_answer {
             Some(at) => {
                 write_answer(f, Span(now.saturating_sub(at)), Moment(at))?;
-                write_indications(f, indications)
+                write_indications(f, outstation)
             }
             None => f.write_str(
                 "<td data-column=\"Last answer\">never</td><td data-column=Indications>none</td>",
@@ -145,18 +157,83 @@ fn write_answer<W: fmt::Write>(f: &mut fmt::Formatter<W>, span: Span, at: Moment
     )
 }
 
-/// Writes what an outstation indicated.
-fn write_indications<W: fmt::Write>(f: &mut fmt::Formatter<W>, indications: u16) -> fmt::Result {
-    let trouble = if tell_of_trouble(indications) {
-        "<strong>TROUBLE:</strong> "
+/// Writes what an outstation indicated, as a caution where it asks for the time and isn't given it.
+fn write_indications<W: fmt::Write>(
+    f: &mut fmt::Formatter<W>,
+    outstation: &OutstationStatus,
+) -> fmt::Result {
+    let indications = outstation.indications;
+    let class = if ask_for_time(indications) && !outstation.is_given_time {
+        "class=caution "
     } else {
         ""
     };
     let names = Names(indications);
     write!(
         f,
-        "<td data-column=Indications>{trouble}{names} <small>0x{indications:04X}</small></td>"
+        "<td {class}data-column=Indications>{names} <small>0x{indications:04X}</small></td>"
     )
+}
+
+/// The cell that tells how many requests there were, and how many of them weren't answered in time.
+#[derive(Clone, Copy)]
+struct RequestCell<'a>(&'a OutstationStatus);
+
+impl<'a> fmt::Display for RequestCell<'a> {
+    fn fmt<W: fmt::Write>(&self, f: &mut fmt::Formatter<W>) -> fmt::Result {
+        let parts = [("unanswered", self.0.unanswered)];
+        write!(
+            f,
+            "<td class=number data-column=Requests>{}{}</td>",
+            self.0.requests,
+            Smaller(&parts)
+        )
+    }
+}
+
+/// The cell that tells how many points there are, and of how many the last value isn't topical, or was never told.
+#[derive(Clone, Copy)]
+struct PointCell(PointStatus);
+
+impl fmt::Display for PointCell {
+    fn fmt<W: fmt::Write>(&self, f: &mut fmt::Formatter<W>) -> fmt::Result {
+        let PointStatus {
+            all,
+            not_topical,
+            never_told,
+        } = self.0;
+        let class = if never_told == 0 {
+            ""
+        } else {
+            "class=caution "
+        };
+        let parts = [("not topical", not_topical), ("never told", never_told)];
+        write!(
+            f,
+            "<td {class}data-column=Points>{all}{}</td>",
+            Smaller(&parts)
+        )
+    }
+}
+
+/// How many there are of each part, where there are some, in lines of their own.
+#[derive(Clone, Copy)]
+struct Smaller<'a>(&'a [(&'static str, u64)]);
+
+impl<'a> fmt::Display for Smaller<'a> {
+    fn fmt<W: fmt::Write>(&self, f: &mut fmt::Formatter<W>) -> fmt::Result {
+        for (part, count) in self.0 {
+            if *count != 0 {
+                write_smaller(f, part, *count)?;
+            }
+        }
+        Ok(())
+    }
+}
+
+/// Writes how many there are of a part in a line of its own.
+fn write_smaller<W: fmt::Write>(f: &mut fmt::Formatter<W>, part: &str, count: u64) -> fmt::Result {
+    write!(f, " <small>{count} {part}</small>")
 }
 
 /// Cells with a number each, below the words of its column.
@@ -231,11 +308,6 @@ fn write_client<W: fmt::Write>(
         number,
         address: client.address,
     };
-    let session = Session {
-        transfers: client.session,
-        since: client.connected_since,
-        now,
-    };
     let counts = [
         ("Not acknowledged", client.unacknowledged),
         ("Queued", client.queued),
@@ -244,7 +316,12 @@ fn write_client<W: fmt::Write>(
     let closes = client.closes.by_cause();
     write!(
         f,
-        "{peer}{session}{}<td data-column=Ended>{}</td></tr>\n",
+        "{peer}{}{}{}<td data-column=Ended>{}</td></tr>\n",
+        TransferCell { client, now },
+        SinceCell {
+            since: client.connected_since,
+            now
+        },
         Counts(&counts),
         Parts(&closes)
     )
@@ -267,35 +344,70 @@ impl fmt::Display for Peer {
     }
 }
 
-/// The cells that tell whether a client gets what is reported, and since when it is connected, at a moment.
+/// The cell that tells how it is with a client, and since when it transfers data, at a moment.
 #[derive(Clone, Copy)]
-struct Session {
-    transfers: bool,
+struct TransferCell<'a> {
+    client: &'a ClientStatus,
+    now: u64,
+}
+
+impl<'a> fmt::Display for TransferCell<'a> {
+    fn fmt<W: fmt::Write>(&self, f: &mut fmt::Formatter<W>) -> fmt::Result {
+        let TransferCell { client, now } = *self;
+        let class = match client.state {
+            ClientState::ReadsTooSlowly(_) => "class=wrong ",
+            _ => "",
+        };
+        let transfer = Transfer {
+            since: client.transfers_since,
+            now,
+        };
+        write!(
+            f,
+            "<td {class}data-column=State>{}{transfer}</td>",
+            ClientWords(client)
+        )
+    }
+}
+
+/// Since when data transfer is started, at a moment, if it is.
+#[derive(Clone, Copy)]
+struct Transfer {
     since: Option<u64>,
     now: u64,
 }
 
-impl fmt::Display for Session {
+impl fmt::Display for Transfer {
     fn fmt<W: fmt::Write>(&self, f: &mut fmt::Formatter<W>) -> fmt::Result {
-        let Session {
-            transfers,
-            since,
-            now,
-        } = *self;
-        let state = if transfers {
-            "data transfer"
-        } else {
-            "connected, no data transfer"
-        };
-        match since {
-            Some(since) => write!(
-                f,
-                "<td data-column=State>{state}</td>\
-                <td data-column=Connected>for {} <small>since {}</small></td>",
-                Span(now.saturating_sub(since)),
-                Moment(since)
-            ),
-            None => f.write_str("<td data-column=State>free</td><td data-column=Connected>no</td>"),
+        match self.since {
+            Some(since) => {
+                let span = Span(self.now.saturating_sub(since));
+                write!(f, " <small>data transfer for {span}</small>")
+            }
+            None => Ok(()),
+        }
+    }
+}
+
+/// The cell that tells since when a client is connected, at a moment.
+#[derive(Clone, Copy)]
+struct SinceCell {
+    since: Option<u64>,
+    now: u64,
+}
+
+impl fmt::Display for SinceCell {
+    fn fmt<W: fmt::Write>(&self, f: &mut fmt::Formatter<W>) -> fmt::Result {
+        match self.since {
+            Some(since) => {
+                let span = Span(self.now.saturating_sub(since));
+                let moment = Moment(since);
+                write!(
+                    f,
+                    "<td data-column=Connected>for {span} <small>since {moment}</small></td>"
+                )
+            }
+            None => f.write_str("<td data-column=Connected>no</td>"),
         }
     }
 }

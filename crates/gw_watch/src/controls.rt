@@ -50,6 +50,7 @@ pub fn note_refusal<R: Wait, C: Clock>(desk: &Desk<'_, R, C>, call: &Call<'_>) {
     if let Some(order) = order_accepted(call.effects) {
         card.reasons.lock(desk.rt).accept(order);
     } else if let Some(refusal) = judged.refusal {
+        card.figures.lock(desk.rt).refused(refusal);
         let (mut reasons, reason) = (card.reasons.lock(desk.rt), Reason::Refused(refusal));
         reasons.refuse(call.number, &judged.command, reason);
     }

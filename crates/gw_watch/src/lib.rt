@@ -3,10 +3,13 @@
 #![tactic(auto)]
 
 mod controls;
+mod process;
 mod site;
 mod status;
 mod watched;
 
+pub use gw_status::Identity;
+pub use process::ProcessFiles;
 pub use site::{CLIENTS, OUTSTATIONS, Site};
 pub use status::serve_status;
 pub use watched::Watched;

@@ -1,7 +1,9 @@
 //! What is served.
 ghost use Rattle.std.specs.Prelude.{◌≤◌};
 
+use crate::process::ProcessFiles;
 use gw_peers::{Door, Plan};
+use gw_status::Identity;
 use std::net::TcpListener;
 
 /// How many outstations there can be.
@@ -17,8 +19,14 @@ pub struct Site<'a> {
     pub door: Door<'a>,
     /// The ways to the outstations.
     pub plans: &'a [Plan],
-    /// The gateway's version.
-    pub version: &'static str,
+    /// Which gateway this is.
+    pub identity: Identity<'a>,
+    /// Whether it is wrong that no client transfers data.
+    pub needs_centre: bool,
+    /// Whether steps are to be taken down.
+    pub is_recorded: bool,
+    /// Where the system tells what the process takes, if it does.
+    pub process: Option<&'a ProcessFiles>,
     /// Where the status is served, if it is.
     pub status: Option<&'a TcpListener>,
     /// When the server started, in milliseconds since 1970 in UTC.

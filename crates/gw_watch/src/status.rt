@@ -5,7 +5,10 @@ use crate::site::Site;
 use gw_http::{HttpRequest, Resource, answer, receive, refuse};
 use gw_model::Memory;
 use gw_peers::{ClientCard, Desk, OutstationCard, Plan, look_up_from_accept, shut};
-use gw_status::{ClientStatus, Metrics, OrderStatus, OutstationStatus, Page, Status};
+use gw_status::{
+    ClientState, ClientStatus, Health, Life, Metrics, OrderStatus, OutstationStatus, Page,
+    ProcessStatus, Status, Verdict, is_alive,
+};
 use gw_threads::{Calls, Clock, Course, Figures, OrderCounts, pause};
 use std::alloc::Global;
 use std::io::{self, ErrorKind, Read, Write};
@@ -126,22 +129,11 @@ fn serve_request<L: Course, S: Calls<L>, R: Wait, C: Clock>(
     let _ = stream.set_read_timeout(Some(Duration::from_millis(LOOK_MS)));
     let _ = stream.set_write_timeout(Some(Duration::from_millis(LOOK_MS)));
     if let Some(request) = receive(&mut Punctual::new(stream, desk.clock, false)) {
-        reply(desk, site, stream, &shared.figures(desk.rt), request);
+        if let Ok(text) = answer_to::<L, S, R, C>(desk, shared, site, request) {
+            send(stream, desk.clock, text.as_str());
+        }
     }
     shut(stream);
-}
-
-/// Answers a request, with what is counted.
-fn reply<R: Wait, C: Clock>(
-    desk: &Desk<'_, R, C>,
-    site: &Site<'_>,
-    stream: &TcpStream,
-    counted: &Figures,
-    request: HttpRequest,
-) {
-    if let Ok(text) = answer_to(desk, site, counted, request) {
-        send(stream, desk.clock, text.as_str());
-    }
 }
 
 /// Sends an answer, as far as it is taken in time.
@@ -149,20 +141,45 @@ fn send<C: Clock>(stream: &TcpStream, clock: &C, text: &str) {
     let _ = Punctual::new(stream, clock, true).write_all(text.as_bytes());
 }
 
-/// The answer to a request, with what is counted.
-fn answer_to<R: Wait, C: Clock>(
+/// The answer to a request.
+fn answer_to<L: Course, S: Calls<L>, R: Wait, C: Clock>(
     desk: &Desk<'_, R, C>,
+    shared: &S,
     site: &Site<'_>,
-    counted: &Figures,
     request: HttpRequest,
 ) -> Result<String, Memory> {
+    let tickless_ms = desk.board.pulse.age(desk.clock.moment());
     match request.asked {
+        Err(refusal) => refuse(desk.alloc, refusal, request.is_head),
+        Ok(asked) if is_of_life(asked, tickless_ms) => {
+            answer_life(desk.alloc, asked, request.is_head, tickless_ms)
+        }
         Ok(asked) => {
-            let status = status_of(desk, site, counted)?;
+            let status = status_of(desk, site, &shared.figures(desk.rt), tickless_ms)?;
             answer_with(desk.alloc, asked, request.is_head, &status)
         }
-        Err(refusal) => refuse(desk.alloc, refusal, request.is_head),
     }
+}
+
+/// Whether a request for something is answered by whether the core lives alone, which has made no tick for so many
+/// milliseconds: its lock isn't waited for then.
+fn is_of_life(asked: Resource, tickless_ms: u64) -> bool {
+    match asked {
+        Resource::Alive => true,
+        Resource::Health => !is_alive(tickless_ms),
+        Resource::Page | Resource::Metrics => false,
+    }
+}
+
+/// The answer to a request for something, by whether the core lives, which has made no tick for so many milliseconds.
+fn answer_life(
+    alloc: Global,
+    asked: Resource,
+    is_head: bool,
+    tickless_ms: u64,
+) -> Result<String, Memory> {
+    let body = format!(in alloc; "{}", Life(tickless_ms))?;
+    answer(alloc, asked, is_head, is_alive(tickless_ms), body.as_str())
 }
 
 /// The answer to a request for something, with a status.
@@ -170,50 +187,91 @@ fn answer_with(
     alloc: Global,
     asked: Resource,
     is_head: bool,
-    status: &Status,
+    status: &Status<'_>,
 ) -> Result<String, Memory> {
+    let verdict = Verdict::of(alloc, status)?;
     let body = match asked {
-        Resource::Page => format!(in alloc; "{}", Page(status))?,
-        Resource::Metrics => format!(in alloc; "{}", Metrics(status))?,
+        Resource::Metrics => format!(in alloc; "{}", Metrics(&*status))?,
+        Resource::Page => page_of(alloc, status, &verdict)?,
+        Resource::Alive | Resource::Health => health_of(alloc, status, &verdict)?,
     };
-    answer(alloc, asked, is_head, body.as_str())
+    let is_well = match asked {
+        Resource::Health => verdict.is_without_alarm(),
+        _ => true,
+    };
+    answer(alloc, asked, is_head, is_well, body.as_str())
 }
 
-/// How the gateway is now, with what is counted.
-fn status_of<R: Wait, C: Clock>(
+/// The page of a status.
+fn page_of(alloc: Global, status: &Status<'_>, verdict: &Verdict) -> Result<String, Memory> {
+    let page = Page {
+        status: &*status,
+        verdict: &*verdict,
+    };
+    Ok(format!(in alloc; "{page}")?)
+}
+
+/// The health of a status.
+fn health_of(alloc: Global, status: &Status<'_>, verdict: &Verdict) -> Result<String, Memory> {
+    let health = Health {
+        status: &*status,
+        verdict: &*verdict,
+    };
+    Ok(format!(in alloc; "{health}")?)
+}
+
+/// How the gateway is now, with what is counted, where the core has made no tick for so many milliseconds.
+fn status_of<'a, R: Wait, C: Clock>(
+    desk: &Desk<'_, R, C>,
+    site: &Site<'a>,
+    counted: &Figures,
+    tickless_ms: u64,
+) -> Result<Status<'a>, Memory> {
+    let records = if site.is_recorded {
+        Some(!desk.journal.has_record_ended())
+    } else {
+        None
+    };
+    Ok(Status {
+        identity: site.identity,
+        now: desk.clock.wall(),
+        started: site.started,
+        tickless_ms,
+        steps: counted.calls,
+        news: counted.news,
+        outstations: outstations_of(desk, site, counted)?,
+        clients: clients_of(desk, counted)?,
+        needs_centre: site.needs_centre,
+        records,
+        not_allowed: desk.board.not_allowed(),
+        left_out: desk.journal.left_out(desk.rt),
+        process: process_of(site),
+    })
+}
+
+/// What the process takes, if the system tells.
+fn process_of(site: &Site<'_>) -> Option<ProcessStatus> {
+    site.process?.read()
+}
+
+/// How it is with each outstation.
+fn outstations_of<R: Wait, C: Clock>(
     desk: &Desk<'_, R, C>,
     site: &Site<'_>,
     counted: &Figures,
-) -> Result<Status, Memory> {
-    let mut status = Status {
-        version: site.version,
-        now: desk.clock.wall(),
-        started: site.started,
-        steps: counted.calls,
-        news: counted.news,
-        outstations: Vec::new(desk.alloc),
-        clients: Vec::new(desk.alloc),
-    };
-    add_outstations(desk, &mut status.outstations, site.plans, counted)?;
-    add_clients(desk.rt, &mut status.clients, desk.board.clients(), counted)?;
-    Ok(status)
-}
-
-/// Adds how it is with each outstation.
-fn add_outstations<R: Wait, C: Clock>(
-    desk: &Desk<'_, R, C>,
-    outstations: &mut Vec<OutstationStatus>,
-    plans: &[Plan],
-    counted: &Figures,
-) -> Result<(), Memory> {
-    for (position, card) in desk.board.outstations().iter().enumerate() {
-        if let (Some(plan), Some(orders)) = (plans.get(position), counted.orders.get(position)) {
+) -> Result<Vec<OutstationStatus>, Memory> {
+    let cards = desk.board.outstations();
+    let mut outstations = Vec::with_capacity(desk.alloc, cards.len())?;
+    for (position, card) in cards.iter().enumerate() {
+        if let (Some(plan), Some(orders)) = (
+            site.plans.get(position),
+            counted.orders.get(position),
+        ) {
             let name = name_at(desk, position)?;
-            let place = plan.connect.clone()?;
-            outstations.push(outstation_status(desk.rt, card, name, place, *orders))?;
+            outstations.push(outstation_status(desk, site, card, plan, name, *orders)?)?;
         }
     }
-    Ok(())
+    Ok(outstations)
 }
 
 /// What the outstation at a position is called; nothing where it has no name.
@@ -223,41 +281,54 @@ fn name_at<R: Wait, C: Clock>(desk: &Desk<'_, R, C>, position: usize) -> Result<
     Ok(String::from_str(desk.alloc, name)?)
 }
 
-/// Adds how it is with each place for a client.
-fn add_clients<R: Wait>(
-    rt: &R,
-    clients: &mut Vec<ClientStatus>,
-    cards: &[ClientCard],
+/// How it is with each place for a client.
+fn clients_of<R: Wait, C: Clock>(
+    desk: &Desk<'_, R, C>,
     counted: &Figures,
-) -> Result<(), Memory> {
+) -> Result<Vec<ClientStatus>, Memory> {
+    let cards = desk.board.clients();
+    let mut clients = Vec::with_capacity(desk.alloc, cards.len())?;
     for (place, card) in cards.iter().enumerate() {
-        clients.push(client_status(rt, card, counted, place))?;
+        clients.push(client_status(desk.rt, card, counted, place))?;
     }
-    Ok(())
+    Ok(clients)
 }
 
-/// How it is with an outstation of a name that is reached at a place, and with its orders.
-fn outstation_status<R: Wait>(
-    rt: &R,
+/// How it is with an outstation of a name that is reached this way, and with its orders.
+fn outstation_status<R: Wait, C: Clock>(
+    desk: &Desk<'_, R, C>,
+    site: &Site<'_>,
     card: &OutstationCard,
+    plan: &Plan,
     name: String,
-    place: String,
     orders: OrderCounts,
-) -> OutstationStatus {
-    let figures = card.figures.lock(rt);
-    OutstationStatus {
+) -> Result<OutstationStatus, Memory> {
+    let place = plan.connect.clone()?;
+    let figures = card.figures.lock(desk.rt);
+    let reason = format!(in desk.alloc; "{}", figures.absence)?;
+    Ok(OutstationStatus {
         name,
         place,
+        address: plan.peer,
+        common_address: plan.common_address,
+        is_given_time: plan.is_given_time,
+        state: figures.state,
+        state_since: figures.state_since.unwrap_or(site.started),
+        reason,
         connected_since: figures.connected_since,
+        has_answered: figures.has_answered(),
         last_answer: figures.last_answer,
         requests: figures.requests,
         unanswered: figures.unanswered,
         refused: figures.refused,
         skipped: figures.skipped,
+        passed_over: figures.passed_over,
         indications: figures.indications,
+        is_clock_not_set: figures.is_clock_not_set(),
         events: figures.events,
+        points: card.point_status(desk.rt, figures.has_told_all()),
         orders: orders_of(orders),
-    }
+    })
 }
 
 /// The orders of an outstation.
@@ -271,22 +342,35 @@ fn orders_of(counts: OrderCounts) -> OrderStatus {
     }
 }
 
-/// How it is with the place at a position.
+/// How it is with the place at a position. What is said of the client that has it isn't said where nobody has.
 fn client_status<R: Wait>(
     rt: &R,
     card: &ClientCard,
     counted: &Figures,
     place: usize,
 ) -> ClientStatus {
+    let dropped = counted.dropped.get(place).copied().unwrap_or(0);
     let figures = card.figures.lock(rt);
+    let state = figures.state(dropped);
+    let (unacknowledged, queued) = match state {
+        ClientState::Free => (0, 0),
+        _ => (
+            number_at(&counted.unacknowledged, place),
+            number_at(&counted.queued, place),
+        ),
+    };
     ClientStatus {
         address: figures.address,
+        state,
         connected_since: figures.connected_since,
-        session: figures.started,
-        unacknowledged: number_at(&counted.unacknowledged, place),
-        queued: number_at(&counted.queued, place),
-        dropped: counted.dropped.get(place).copied().unwrap_or(0),
+        transfers_since: figures.transfers_since,
+        unacknowledged,
+        queued,
+        dropped,
+        dropped_lately: figures.dropped_lately(dropped),
+        dropped_of_client: figures.dropped_of_client(dropped),
         closes: figures.closes,
+        refusals: figures.refusals,
     }
 }
 

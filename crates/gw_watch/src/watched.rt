@@ -3,7 +3,7 @@
 
 use crate::controls::{note_refusal, tell_end, tell_of_commands, tell_of_controls};
 use dnp_app::AppFault;
-use gw_journal::{JournalEvent, UnknownAsdu, Unreadable, Way};
+use gw_journal::{JournalEvent, RequestPurpose, UnknownAsdu, Unreadable, Way};
 use gw_peers::{Desk, Source};
 use gw_threads::{About, Asked, Call, Clock, FrameHeader, Gate, Place, Reply, Run, Step, Verdict};
 use iec_apci::{Apdu, Apdus, Signal};
@@ -14,6 +14,12 @@ const WRITE: u8 = 2;
 
 /// The group of times.
 const TIMES: u8 = 50;
+
+/// READ (4.4.2).
+const READ: u8 = 1;
+
+/// How a request for all that an outstation has ends: the header of class 0 (group 60 variation 1, all objects).
+const CLASS_0: &[u8] = &[60, 1, 6];
 
 /// Where the control field of an APDU begins, and with which octet that of a TESTFR act does (IEC 60870-5-104, 5.1).
 const CONTROL: usize = 2;
@@ -44,21 +50,29 @@ fn answered<R: Wait, C: Clock>(
         .figures
         .lock(desk.rt)
         .answered(step, wall, indications, ended, u64::from(events));
+    card.takes_reports(desk.rt);
     desk.tell_noticed(outstation, noticed);
 }
 
 /// A request goes to an outstation, which the step of this number gave.
 fn asked<R: Wait, C: Clock>(desk: &Desk<'_, R, C>, step: u64, outstation: u8, request: &[u8]) {
     if let Some(card) = desk.board.outstation(outstation) {
-        let writes_time = writes_time(request);
-        card.figures.lock(desk.rt).asked(step, writes_time);
+        card.figures.lock(desk.rt).asked(step, purpose_of(request));
     }
 }
 
-/// The request to an outstation wasn't answered in time.
-fn unanswered<R: Wait, C: Clock>(desk: &Desk<'_, R, C>, outstation: usize) {
+/// The request to an outstation wasn't answered in time, as the step of this number found.
+fn unanswered<R: Wait, C: Clock>(desk: &Desk<'_, R, C>, step: u64, outstation: usize) {
     if let Some(card) = desk.board.outstations().get(outstation) {
-        card.figures.lock(desk.rt).unanswered();
+        let wall = desk.clock.wall();
+        card.figures.lock(desk.rt).unanswered(step, wall);
+    }
+}
+
+/// The core counts an outstation as lost.
+fn lost<R: Wait, C: Clock>(desk: &Desk<'_, R, C>, outstation: u8) {
+    if let Some(card) = desk.board.outstation(outstation) {
+        card.loses_points(desk.rt);
     }
 }
 
@@ -139,12 +153,13 @@ fn signalled<R: Wait, C: Clock>(desk: &Desk<'_, R, C>, client: u8, signal: Signa
     };
     match signal {
         Signal::StartAct => {
-            if let Some(address) = card.starts(desk.rt) {
+            if let Some(address) = card.starts(desk.rt, desk.clock.wall()) {
                 desk.tell(JournalEvent::TransferStarted { client, address });
             }
         }
         Signal::StopAct => {
-            if let Some(address) = card.stops(desk.rt, desk.clock.moment()) {
+            let (wall, moment) = (desk.clock.wall(), desk.clock.moment());
+            if let Some(address) = card.stops(desk.rt, wall, moment) {
                 desk.tell(JournalEvent::TransferStopped { client, address });
             }
         }
@@ -167,6 +182,8 @@ fn made<R: Wait, C: Clock>(desk: &Desk<'_, R, C>, call: &Call<'_>) {
         (About::Poll(outstation), Ok(Reply::Request(request))) => {
             asked(desk, call.number, outstation, request.as_slice());
         }
+        (About::OutstationDown(outstation), Ok(Reply::Done)) => lost(desk, outstation),
+        (About::Tick, Ok(_)) => desk.board.pulse.beat(desk.clock.moment()),
         (
             About::Frame {
                 client,
@@ -191,7 +208,7 @@ fn made<R: Wait, C: Clock>(desk: &Desk<'_, R, C>, call: &Call<'_>) {
 /// Tells what a step did besides its reply.
 fn tell_of_effects<R: Wait, C: Clock>(desk: &Desk<'_, R, C>, call: &Call<'_>) {
     for outstation in call.effects.unanswered().iter() {
-        unanswered(desk, *outstation);
+        unanswered(desk, call.number, *outstation);
     }
     note_refusal(desk, call);
     for end in call.effects.ended().iter() {
@@ -249,16 +266,7 @@ impl<'a, R: Wait, C: Clock, G: Gate> Gate for Watched<'a, R, C, G> {
         if let Some(source) = source_of(step) {
             self.desk.board.sequence.begin(self.desk.rt, source);
         }
-        if let Step::Frame {
-            client,
-            apdu: Apdu::U(Signal::StartAct),
-            ..
-        } = step
-        {
-            if let Some(card) = self.desk.board.client(*client) {
-                card.keeps_place(self.desk.rt);
-            }
-        }
+        foresee(self.desk, step);
         self.gate.line_of(step)
     }
 
@@ -280,6 +288,27 @@ impl<'a, R: Wait, C: Clock, G: Gate> Gate for Watched<'a, R, C, G> {
         self.gate.stood_still(milliseconds);
         self.desk
             .tell(JournalEvent::HostStoodStill { milliseconds });
+    }
+}
+
+/// Notes what a step is about to do.
+fn foresee<R: Wait, C: Clock>(desk: &Desk<'_, R, C>, step: &Step) {
+    match step {
+        Step::Frame {
+            client,
+            apdu: Apdu::U(Signal::StartAct),
+            ..
+        } => {
+            if let Some(card) = desk.board.client(*client) {
+                card.keeps_place(desk.rt);
+            }
+        }
+        Step::Fragment { response, .. } => {
+            if let Some(card) = desk.board.outstation(response.outstation()) {
+                card.reports(desk.rt, response.reports());
+            }
+        }
+        _ => {}
     }
 }
 
@@ -313,7 +342,12 @@ fn source_about(about: About) -> Option<Source> {
     }
 }
 
-/// Whether a request writes the time: function WRITE, and an object of group 50.
-fn writes_time(request: &[u8]) -> bool {
-    request.get(1) == Some(&WRITE) && request.get(2) == Some(&TIMES)
+/// What a request asks for: it writes the time by function WRITE and an object of group 50, and asks for all by function READ
+/// and class 0.
+fn purpose_of(request: &[u8]) -> RequestPurpose {
+    let function = request.get(1);
+    RequestPurpose {
+        writes_time: function == Some(&WRITE) && request.get(2) == Some(&TIMES),
+        asks_for_all: function == Some(&READ) && request.ends_with(CLASS_0),
+    }
 }

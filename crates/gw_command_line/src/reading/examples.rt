@@ -94,3 +94,18 @@ pub fn option_lines()
     ensures no_size { fault_of gateway
         (codes "gateway" ∷ codes "run" ∷ codes "a" ∷ codes "--record-size" ∷ codes "0" ∷ []) ≡ ValueValidation ∷ [] }
 {}
+
+/// Lines of `gateway run` that say what the status shows: the name of the site, and that the health needs a control centre; and
+/// a name that is left out.
+#[tactic(auto, unfolding(clap::proofs::OnLiterals::clap_on_literals))]
+pub fn shown_lines()
+    ensures site_taken { fault_of gateway (codes "gateway" ∷ codes "run" ∷ codes "a" ∷ codes "--site" ∷ codes "b c"
+        ∷ codes "--health-needs-centre" ∷ []) ≡ [] }
+    ensures site_spelled { spelled (codes "gateway" ∷ codes "run" ∷ codes "a" ∷ codes "--site" ∷ codes "b c"
+        ∷ codes "--health-needs-centre" ∷ [])
+        ≡ Some (to_run (codes "a") None (record no_options { site = Some (codes "b c"); needs_centre = true })) }
+    ensures flag_taken { fault_of gateway
+        (codes "gateway" ∷ codes "run" ∷ codes "a" ∷ codes "--health-needs-centre" ∷ []) ≡ [] }
+    ensures flag_spelled { spelled (codes "gateway" ∷ codes "run" ∷ codes "a" ∷ codes "--health-needs-centre" ∷ [])
+        ≡ Some (to_run (codes "a") None (record no_options { needs_centre = true })) }
+{}
