@@ -5,15 +5,18 @@
  * 127.105.0.N: a call reads or writes N octets at most, and is interrupted once before it is made.
  * 127.106.0.N: a thread that has read from it takes N hundredths of a second each time that it reads the time of day.
  * 127.107.0.N: of what is written to it the system keeps some N kB at most until it reads.
+ * OPENED_AS_IT_IS: the path of a file that is opened as it stands where it was to be made anew.
  * TIME_OF_DAY: a file with the time of day in milliseconds since 1970, which stands still until the file is written, how many
  * hundredths of a second a thread without a peer takes each time that it reads it, and how many milliseconds the monotonic clock
  * is ahead; eight octets each. */
 #include <errno.h>
 #include <fcntl.h>
+#include <stdarg.h>
 #include <stdatomic.h>
 #include <stddef.h>
 #include <stdint.h>
 #include <stdlib.h>
+#include <string.h>
 #include <sys/mman.h>
 #include <sys/syscall.h>
 #include <time.h>
@@ -142,6 +145,21 @@ ssize_t send(int connection, const void *octets, size_t count, int flags)
     if (what == INTERRUPTED && count > (size_t)last)
         count = last;
     return syscall(SYS_sendto, connection, octets, count, flags, NULL, 0);
+}
+
+int open(const char *name, int flags, ...)
+{
+    const char *as_it_is = getenv("OPENED_AS_IT_IS");
+    unsigned int mode = 0;
+    if (flags & O_CREAT) {
+        va_list rest;
+        va_start(rest, flags);
+        mode = va_arg(rest, unsigned int);
+        va_end(rest);
+    }
+    if (as_it_is && strcmp(name, as_it_is) == 0)
+        flags &= ~O_EXCL;
+    return (int)syscall(SYS_openat, AT_FDCWD, name, flags, mode);
 }
 
 static void rest_for(long hundredths)

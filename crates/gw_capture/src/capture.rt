@@ -3,6 +3,7 @@
 use crate::files::Files;
 use crate::kept::Kept;
 use crate::lines::Lines;
+use crate::pieces::{OnePiece, Pieces};
 use crate::pumps::Pumps;
 use crate::waiting::{Turn, WaitingLines};
 use gw_bell::Bell;
@@ -120,7 +121,21 @@ impl Capture {
     /// Writes the lines of steps and those of the replies as they come, in the order of the steps' numbers, until the
     /// capture is closed and all is written, or it can't go on. Both files are flushed where nothing waits.
     pub fn write_on<R: Wait, W: Write>(&self, rt: &R, steps: &mut W, answers: &mut W) -> RecordEnd {
-        let ended = match Files::new(self.alloc, self.megabytes, steps, answers) {
+        let pieces = OnePiece {
+            megabytes: self.megabytes,
+        };
+        self.write_pieces(rt, steps, answers, pieces)
+    }
+
+    /// The same, and goes on in further files where these have as much as they may.
+    pub fn write_pieces<R: Wait, W: Write + Drop, P: Pieces<W> + Drop>(
+        &self,
+        rt: &R,
+        steps: W,
+        answers: W,
+        pieces: P,
+    ) -> RecordEnd {
+        let ended = match Files::new(self.alloc, self.megabytes, steps, answers, pieces) {
             Ok(mut files) => self.write_all(rt, &mut files),
             Err(_) => RecordEnd {
                 step: 1,
@@ -133,7 +148,11 @@ impl Capture {
     }
 
     /// Lines after lines.
-    fn write_all<R: Wait, W: Write + Drop>(&self, rt: &R, files: &mut Files<W>) -> RecordEnd {
+    fn write_all<R: Wait, W: Write + Drop, P: Pieces<W> + Drop>(
+        &self,
+        rt: &R,
+        files: &mut Files<W, P>,
+    ) -> RecordEnd {
         for _ in rt.forever() {
             if let Some(ended) = self.write_next(rt, files) {
                 return ended;
@@ -143,10 +162,10 @@ impl Capture {
     }
 
     /// Writes the lines that have waited longest, or waits for some; how the capture ended, if it did.
-    fn write_next<R: Wait, W: Write + Drop>(
+    fn write_next<R: Wait, W: Write + Drop, P: Pieces<W> + Drop>(
         &self,
         rt: &R,
-        files: &mut Files<W>,
+        files: &mut Files<W, P>,
     ) -> Option<RecordEnd> {
         let rung = self.bell.rung();
         let done = match self.turn(rt, files) {
@@ -167,7 +186,11 @@ impl Capture {
     }
 
     /// What is to be done next.
-    fn turn<R: Wait, W: Write + Drop>(&self, rt: &R, files: &mut Files<W>) -> Turn {
+    fn turn<R: Wait, W: Write + Drop, P: Pieces<W> + Drop>(
+        &self,
+        rt: &R,
+        files: &mut Files<W, P>,
+    ) -> Turn {
         let added = files.take_added();
         self.waiting.lock(rt).turn(added)
     }

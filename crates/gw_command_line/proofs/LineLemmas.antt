@@ -131,32 +131,36 @@ walk_avoids s names w (word ∷ rest) enabled avoids none =
 
 -- ---- a line that is not refused asks for something
 
--- the subcommands are `check`, `points`, `translate`, `replay`, `run` and `help`
+-- the subcommands are `check`, `points`, `translate`, `replay`, `pcap`, `run` and `help`
 stop_asks : (stop : Option (Text × List Text)) → is_help stop ≡ false → is_some (entered (built gateway) stop) ≡ true
     → is_some (asked_of (entered (built gateway) stop)) ≡ true
 stop_asks None avoids has = has
 stop_asks (Some stop) avoids has =
     go (bytes_eq (codes "check") stop.0) (bytes_eq (codes "points") stop.0) (bytes_eq (codes "translate") stop.0)
-    (bytes_eq (codes "replay") stop.0) (bytes_eq (codes "run") stop.0) (bytes_eq (codes "help") stop.0) refl refl refl
-    refl refl refl
+    (bytes_eq (codes "replay") stop.0) (bytes_eq (codes "pcap") stop.0) (bytes_eq (codes "run") stop.0)
+    (bytes_eq (codes "help") stop.0) refl refl refl refl refl refl refl
   where
-    go : (k p b d r h : Bool) → bytes_eq (codes "check") stop.0 ≡ k → bytes_eq (codes "points") stop.0 ≡ p
+    go : (k o b d p r h : Bool) → bytes_eq (codes "check") stop.0 ≡ k → bytes_eq (codes "points") stop.0 ≡ o
         → bytes_eq (codes "translate") stop.0 ≡ b
-        → bytes_eq (codes "replay") stop.0 ≡ d → bytes_eq (codes "run") stop.0 ≡ r → bytes_eq (codes "help") stop.0 ≡ h
+        → bytes_eq (codes "replay") stop.0 ≡ d → bytes_eq (codes "pcap") stop.0 ≡ p
+        → bytes_eq (codes "run") stop.0 ≡ r → bytes_eq (codes "help") stop.0 ≡ h
         → is_some (asked_of (entered (built gateway) (Some stop))) ≡ true
-    go true p b d r h is_check is_points is_translate is_replay is_run is_other = rw is_check refl
-    go false true b d r h is_check is_points is_translate is_replay is_run is_other = rw (is_check, is_points) refl
-    go false false true d r h is_check is_points is_translate is_replay is_run is_other =
+    go true o b d p r h is_check is_points is_translate is_replay is_pcap is_run is_other = rw is_check refl
+    go false true b d p r h is_check is_points is_translate is_replay is_pcap is_run is_other =
+        rw (is_check, is_points) refl
+    go false false true d p r h is_check is_points is_translate is_replay is_pcap is_run is_other =
         rw (is_check, is_points, is_translate) refl
-    go false false false true r h is_check is_points is_translate is_replay is_run is_other =
+    go false false false true p r h is_check is_points is_translate is_replay is_pcap is_run is_other =
         rw (is_check, is_points, is_translate, is_replay) refl
-    go false false false false true h is_check is_points is_translate is_replay is_run is_other =
-        rw (is_check, is_points, is_translate, is_replay, is_run) refl
-    go false false false false false true is_check is_points is_translate is_replay is_run is_other =
+    go false false false false true r h is_check is_points is_translate is_replay is_pcap is_run is_other =
+        rw (is_check, is_points, is_translate, is_replay, is_pcap) refl
+    go false false false false false true h is_check is_points is_translate is_replay is_pcap is_run is_other =
+        rw (is_check, is_points, is_translate, is_replay, is_pcap, is_run) refl
+    go false false false false false false true is_check is_points is_translate is_replay is_pcap is_run is_other =
         let same : codes "help" ≡ stop.0 = (bytes_eq-Decides _ _).0 is_other in
         absurd (true≢false (rw (← same) at avoids))
-    go false false false false false false is_check is_points is_translate is_replay is_run is_other =
-        absurd (true≢false (sym (rw (is_check, is_points, is_translate, is_replay, is_run, is_other) at has)))
+    go false false false false false false false is_check is_points is_translate is_replay is_pcap is_run is_other =
+        absurd (true≢false (sym (rw (is_check, is_points, is_translate, is_replay, is_pcap, is_run, is_other) at has)))
 
 -- the last check wants a subcommand
 has_named : (rows : List Row) (has : Bool) → check_fault (built gateway).top rows has ≡ [] → has ≡ true

@@ -12,7 +12,7 @@ use Rattle.clap.specs.declared.error.Error.{Error}
 use Rattle.clap.specs.declared.error.kind.ErrorKind.{ErrorKind}
 use Rattle.clap.specs.declared.error.kind.ErrorKind.TheVariants.{OutOfMemory}
 use Rattle.gw_command_line.specs.declared.reading.Asked.{Asked}
-use Rattle.gw_command_line.specs.declared.reading.Asked.TheVariants.{Check, Points, Translate, Replay, Run}
+use Rattle.gw_command_line.specs.declared.reading.Asked.TheVariants.{Check, Points, Translate, Replay, Pcap, Run}
 use Rattle.gw_command_line.specs.declared.reading.RunOptions.{RunOptions}
 use Rattle.gw_command_line.specs.declared.reading.LineFault.{LineFault}
 use Rattle.gw_command_line.specs.declared.reading.LineFault.TheVariants.{Clap, Memory}
@@ -22,6 +22,10 @@ use Rattle.gw_command_line.specs.declared.reading.LineFault.TheVariants.{Clap, M
 -- FILE, which has to be named
 abbrev pub file_rule : Rule
 file_rule = record (new_rule (codes "file")) { required = true; action = Some Set; value_names = 1 }
+
+-- OUT, which has to be named behind it
+abbrev pub out_rule : Rule
+out_rule = record (new_rule (codes "out")) { required = true; action = Some Set; value_names = 1 }
 
 -- `--NAME VALUE`, which may be used once
 abbrev pub text_rule : Text → Rule
@@ -61,6 +65,10 @@ translate = with_rule (new_app (codes "translate")) (text_rule (codes "settings"
 abbrev pub replay : App
 replay = file_app (codes "replay")
 
+-- `gateway pcap FILE OUT`
+abbrev pub pcap : App
+pcap = with_rule (file_app (codes "pcap")) out_rule
+
 -- `gateway run FILE [--sessions N] [--allow ADDRESS]... [--until-eof]`
 abbrev pub serve : App
 serve =
@@ -78,6 +86,10 @@ run =
     (text_rule (codes "status") ∷ text_rule (codes "record") ∷ number_rule (codes "record-size")
     ∷ text_rule (codes "names") ∷ [])
 
+-- the same with `[--record-folder DIR] [--record-keep MB]`
+abbrev pub recording : App
+recording = fold with_rule run (text_rule (codes "record-folder") ∷ number_rule (codes "record-keep") ∷ [])
+
 -- the program: a subcommand has to be named, and it has a version
 abbrev pub alone : App
 alone = on_top (λ top. record top { subcommand_required = true; has_version = true }) (new_app (codes "gateway"))
@@ -86,7 +98,10 @@ abbrev pub gateway : App
 gateway =
     with_subcommand
     (with_subcommand
-    (with_subcommand (with_subcommand (with_subcommand alone check.top) points.top) translate.top) replay.top) run.top
+    (with_subcommand
+    (with_subcommand (with_subcommand (with_subcommand alone check.top) points.top) translate.top) replay.top)
+    pcap.top)
+    recording.top
 
 -- ---- what it asks for
 
@@ -100,6 +115,8 @@ pub record Options : Type 0 where
   pub «record» : Option Text
   pub record_size : ℕ
   pub names : Option Text
+  pub record_folder : Option Text
+  pub record_keep : Option ℕ
 
 -- the same where none of them is used
 abbrev pub no_options : Options
@@ -113,6 +130,8 @@ no_options =
       «record» = None;
       record_size = 256;
       names = None;
+      record_folder = None;
+      record_keep = None;
     }
 
 abbrev pub options_of : RunOptions → Options
@@ -125,6 +144,8 @@ options_of options = record {
   «record» = option_map (λ file. file.now) options.record;
   record_size = options.record_size;
   names = option_map (λ list. list.now) options.names;
+  record_folder = option_map (λ folder. folder.now) options.record_folder;
+  record_keep = options.record_keep;
 }
 
 -- what is asked for, with the words that name files and addresses, whether the profile is, and whether a list is
@@ -133,6 +154,7 @@ pub data Request : Type 0 where
   to_points : Text → Option Text → Bool → Option Text → Request
   to_translate : Option Text → Request
   to_replay : Text → Request
+  to_pcap : Text → Text → Request
   to_run : Text → Option ℕ → Options → Request
 
 abbrev pub request_of : Asked → Request
@@ -141,6 +163,7 @@ request_of (Points file site csv names) =
     to_points file.now (option_map (λ settings. settings.now) site) csv (option_map (λ list. list.now) names)
 request_of (Translate settings) = to_translate (option_map (λ file. file.now) settings)
 request_of (Replay file) = to_replay file.now
+request_of (Pcap file out) = to_pcap file.now out.now
 request_of (Run file sessions options) = to_run file.now sessions (options_of options)
 
 -- the number that a text says, from 1 to 1000000
@@ -160,6 +183,9 @@ is_set None = false
 -- what was found for an argument, by its kind
 abbrev pub file_in : List Row → Text
 file_in rows = unwrap_or (first_of (codes "file") rows) []
+
+abbrev pub out_in : List Row → Text
+out_in rows = unwrap_or (first_of (codes "out") rows) []
 
 abbrev pub texts_in : Text → List Row → List Text
 texts_in name rows = unwrap_or (all_of name rows) []
@@ -181,6 +207,8 @@ options_in rows = record {
   «record» = first_of (codes "record") rows;
   record_size = unwrap_or (number_in (codes "record-size") rows) 256;
   names = first_of (codes "names") rows;
+  record_folder = first_of (codes "record-folder") rows;
+  record_keep = number_in (codes "record-keep") rows;
 }
 
 abbrev pub run_in : List Row → Request
@@ -200,6 +228,7 @@ asked_as name rows =
     else if bytes_eq name (codes "points") then Some (points_in rows)
     else if bytes_eq name (codes "translate") then Some (to_translate (first_of (codes "settings") rows))
     else if bytes_eq name (codes "replay") then Some (to_replay (file_in rows))
+    else if bytes_eq name (codes "pcap") then Some (to_pcap (file_in rows) (out_in rows))
     else if bytes_eq name (codes "run") then Some (run_in rows)
     else None
 

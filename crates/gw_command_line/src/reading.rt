@@ -7,7 +7,7 @@ ghost use Rattle.std.specs.Prelude.{◌≡◌, [], IfErr, IfOk, Some, false, map
 ghost use Rattle.clap.specs.Words.{App, Rule, app_of, fault_of, first_of, found_of, rows_of, rule_of, subcommand_rows_of, with_rule, with_subcommand};
 ghost use Rattle.clap.specs.Walk.{texts};
 ghost use Rattle.clap.specs.declared.builder.command.Command.TheViews.{out-Command as fields_of};
-ghost use Rattle.gw_command_line.specs.CommandLine.{IsRefusal, alone, as_fault, asked_of, check, check_in, file_app, file_in, file_rule, flag_rule, gateway, is_used, number_from, number_in, number_of, number_rule, options_in, options_of, points, points_in, request_of, run, run_in, serve, shown, spelled, text_rule, texts_in, texts_rule, translate};
+ghost use Rattle.gw_command_line.specs.CommandLine.{IsRefusal, alone, as_fault, asked_of, check, check_in, file_app, file_in, file_rule, flag_rule, gateway, is_used, number_from, number_in, number_of, number_rule, options_in, options_of, out_in, out_rule, pcap, points, points_in, recording, request_of, run, run_in, serve, shown, spelled, text_rule, texts_in, texts_rule, translate};
 ghost use Rattle.gw_command_line.specs.declared.reading.LineFault.TheVariants.{Memory};
 
 use clap::error::ErrorKind;
@@ -23,7 +23,7 @@ pub const VERSION: &str = "0.1.0";
 /// The most that an option with a number may ask for: connections of control centres, or megabytes.
 const LARGEST_NUMBER: u32 = 1_000_000;
 
-/// The most megabytes that the file of `--record` may have, where none are said.
+/// The most megabytes that a file of a record may have, where none are said.
 const DEFAULT_RECORD_SIZE: u32 = 256;
 
 /// What a command line asks for.
@@ -54,6 +54,11 @@ pub enum Asked<'a> {
     Replay {
         file: &'a str,
     },
+    /// `gateway pcap FILE OUT`: plays the lines of a record, and writes what they and the replies show as packets into OUT.
+    Pcap {
+        file: &'a str,
+        out: &'a str,
+    },
     /// `gateway run FILE [--sessions N] [OPTIONS]`: serves control centres and outstations as the options say, until N
     /// connections of control centres have ended, where N is given.
     Run {
@@ -79,10 +84,14 @@ pub struct RunOptions<'a> {
     pub status: Option<&'a str>,
     /// `--record FILE`: the file to which the run is written as lines of a replay.
     pub record: Option<&'a str>,
-    /// `--record-size MB`: the most megabytes that this file may have.
+    /// `--record-size MB`: the most megabytes that this file may have, or a file of a piece.
     pub record_size: u32,
     /// `--names FILE`: the list whose names stand behind lines of the log, and on the status page.
     pub names: Option<&'a str>,
+    /// `--record-folder DIR`: the folder that keeps the run in pieces, beside earlier ones.
+    pub record_folder: Option<&'a str>,
+    /// `--record-keep MB`: the most megabytes that the runs of this folder may have together.
+    pub record_keep: Option<u32>,
 }
 
 /// Why a command line asks for nothing.
@@ -153,7 +162,8 @@ fn gateway_command<'a>(alloc: Global) -> Result<Command<'a>, AllocError>
     let program = with_subcommand(program, points_command(alloc));
     let program = with_subcommand(program, translate_command(alloc));
     let program = with_subcommand(program, replay);
-    with_subcommand(program, run_command(alloc))
+    let program = with_subcommand(program, pcap_command(alloc));
+    with_subcommand(program, recording_command(alloc))
 }
 
 /// The program with a subcommand more.
@@ -261,6 +271,20 @@ fn translate_command<'a>(alloc: Global) -> Result<Command<'a>, AllocError>
         .arg(text_argument(alloc, "settings", "FILE", "The settings file"))
 }
 
+/// `gateway pcap`.
+fn pcap_command<'a>(alloc: Global) -> Result<Command<'a>, AllocError>
+    ensures app { IfOk result (λ command. app_of command ≡ pcap) }
+    ensures local { IfOk result (λ command. (fields_of command).has_globals ≡ false) }
+{
+    let out = out_argument(alloc);
+    let command = file_command(
+        alloc,
+        "pcap",
+        "Plays a record, and writes it as packets that are made anew round its fragments and APDUs",
+    );
+    with_argument(command, out)
+}
+
 /// `gateway run`, with the options that say whom it serves, and how long.
 fn serve_command<'a>(alloc: Global) -> Result<Command<'a>, AllocError>
     ensures app { IfOk result (λ command. app_of command ≡ serve) }
@@ -309,7 +333,7 @@ fn shown_command<'a>(alloc: Global) -> Result<Command<'a>, AllocError>
     with_argument(command, needs_centre)
 }
 
-/// `gateway run`.
+/// `gateway run`, with the options that say where its status and its record are.
 fn run_command<'a>(alloc: Global) -> Result<Command<'a>, AllocError>
     ensures app { IfOk result (λ command. app_of command ≡ run) }
     ensures local { IfOk result (λ command. (fields_of command).has_globals ≡ false) }
@@ -330,13 +354,34 @@ fn run_command<'a>(alloc: Global) -> Result<Command<'a>, AllocError>
         alloc,
         "record-size",
         "MB",
-        "The most megabytes that the file of --record may have, 1 to 1000000; 256 where none are said",
+        "The most megabytes that a file of the record may have, 1 to 1000000; 256 where none are said",
     );
     let names = text_argument(alloc, "names", "FILE", "The list with the names to tell");
     let command = with_argument(shown_command(alloc), status);
     let command = with_argument(command, record);
     let command = with_argument(command, record_size);
     with_argument(command, names)
+}
+
+/// `gateway run`, with all its options.
+fn recording_command<'a>(alloc: Global) -> Result<Command<'a>, AllocError>
+    ensures app { IfOk result (λ command. app_of command ≡ recording) }
+    ensures local { IfOk result (λ command. (fields_of command).has_globals ≡ false) }
+{
+    let folder = text_argument(
+        alloc,
+        "record-folder",
+        "DIR",
+        "Keeps the run in this folder, in pieces of --record-size, beside earlier runs",
+    );
+    let keep = number_argument(
+        alloc,
+        "record-keep",
+        "MB",
+        "The most megabytes that the runs of --record-folder may have together, 1 to 1000000; the oldest go first",
+    );
+    let command = with_argument(run_command(alloc), folder);
+    with_argument(command, keep)
 }
 
 /// The file that has to be named, with what it is.
@@ -347,6 +392,18 @@ fn file_argument<'a>(alloc: Global, help: &'a str) -> Arg<'a>
     Arg::new(alloc, "file")
         .help(help)
         .value_name("FILE")
+        .required(true)
+        .action(ArgAction::Set)
+}
+
+/// The file that is made, which has to be named behind the settings file.
+fn out_argument<'a>(alloc: Global) -> Arg<'a>
+    ensures rule { rule_of result ≡ out_rule }
+    ensures local { result.global ≡ false }
+{
+    Arg::new(alloc, "out")
+        .help("The capture file, which is made")
+        .value_name("OUT")
         .required(true)
         .action(ArgAction::Set)
 }
@@ -398,6 +455,16 @@ fn file_named<'a>(matches: &ArgMatches<'a>) -> &'a str
 {
     match text_named(matches, "file") {
         Some(file) => file,
+        None => "",
+    }
+}
+
+/// The file that is to be made; `clap` sees to it that there is one.
+fn out_named<'a>(matches: &ArgMatches<'a>) -> &'a str
+    ensures { result.now ≡ out_in (rows_of (found_of matches.now)) }
+{
+    match text_named(matches, "out") {
+        Some(out) => out,
         None => "",
     }
 }
@@ -474,6 +541,8 @@ fn options_named<'a>(alloc: Global, matches: &ArgMatches<'a>) -> Result<RunOptio
         record: text_named(matches, "record"),
         record_size: number_named(matches, "record-size").unwrap_or(DEFAULT_RECORD_SIZE),
         names: text_named(matches, "names"),
+        record_folder: text_named(matches, "record-folder"),
+        record_keep: number_named(matches, "record-keep"),
     })
 }
 
@@ -526,6 +595,10 @@ fn asked_by<'a>(alloc: Global, matches: &ArgMatches<'a>) -> Result<Option<Asked<
         })),
         "replay" => Ok(Some(Asked::Replay {
             file: file_named(found),
+        })),
+        "pcap" => Ok(Some(Asked::Pcap {
+            file: file_named(found),
+            out: out_named(found),
         })),
         "run" => Ok(Some(run_named(alloc, found)?)),
         _ => Ok(None),

@@ -13,6 +13,15 @@ pub enum FileFailure {
     /// A folder stands there.
     #[error("it is a folder")]
     Folder,
+    /// Something else than a folder stands there, or in front of it.
+    #[error("it is no folder")]
+    NoFolder,
+    /// A file stands there, which is let alone.
+    #[error("it is there already")]
+    Standing,
+    /// The disk, or what somebody may have of it, is full.
+    #[error("no room is left")]
+    NoRoom,
     /// Nothing can be written to the file system.
     #[error("the file system is read-only")]
     ReadOnly,
@@ -27,6 +36,9 @@ impl FileFailure {
         match kind {
             ErrorKind::NotFound => FileFailure::Missing(missing),
             ErrorKind::IsADirectory => FileFailure::Folder,
+            ErrorKind::NotADirectory => FileFailure::NoFolder,
+            ErrorKind::AlreadyExists => FileFailure::Standing,
+            ErrorKind::StorageFull | ErrorKind::QuotaExceeded => FileFailure::NoRoom,
             ErrorKind::ReadOnlyFilesystem => FileFailure::ReadOnly,
             // A failure's words for it are those of a peer's address.
             ErrorKind::InvalidInput => FileFailure::Other(Failure::Other),

@@ -1,16 +1,19 @@
 //! The gateway's programs.
 #![tactic(auto)]
 
+mod capturing;
 mod commit;
 mod failure_of_file;
 mod lists;
 mod obstacle;
+mod record_folder;
 mod recording;
 mod refusal;
 mod running;
 mod settings_file;
 mod shown;
 
+use crate::capturing::pcap;
 use crate::lists::{Named, points, refuse_list};
 use crate::refusal::{REFUSED, refuse, refuse_file, refuse_for, refuse_octets};
 use crate::running::run;
@@ -83,6 +86,7 @@ fn answer<H: Host>(rt: &HostRuntime, host: &H, asked: Asked) -> io::Result<u8> {
             Ok(settings) => replay_input(rt, settings),
             Err(bad) => refuse_file(rt, "", &bad),
         },
+        Asked::Pcap { file, out } => pcap(rt, file, out),
         Asked::Run {
             file,
             sessions,

@@ -3,13 +3,15 @@
 use crate::USAGE;
 use crate::lists::{Named, Unlisted, refuse_list};
 use crate::obstacle::{Obstacle, failure_at};
+use crate::record_folder::{FolderPieces, Keeping, about_run, begin_run};
 use crate::recording::{Recording, tell_end};
 use crate::refusal::{complain, refuse_file, refuse_for};
 use crate::settings_file::{BadFile, read_octets};
 use crate::shown::Shown;
-use gw_capture::Capture;
+use gw_capture::{Capture, OnePiece, Pieces};
 use gw_checker::{Warning, read_settings, warnings_of};
 use gw_command_line::{RunOptions, VERSION};
+use gw_folder::PieceFiles;
 use gw_journal::{Doubt, Journal, JournalEvent};
 use gw_map::Settings;
 use gw_model::Memory;
@@ -19,7 +21,7 @@ use gw_server::{
 };
 use sha2::{Digest, Sha256};
 use std::alloc::{AllocError, Global};
-use std::fs::File;
+use std::fs::{self, File, OpenOptions};
 use std::net::TcpListener;
 use std::sync::Wait;
 use std::{env, io, thread};
@@ -43,6 +45,12 @@ enum Unserved<'a> {
     /// What is behind `--allow` is no address.
     #[error("--allow takes an address, or an address, / and a number of bits")]
     Allow,
+    /// A record is asked for in two ways.
+    #[error("--record and --record-folder can't be used together")]
+    TwoRecords,
+    /// What is kept is bounded, and nothing is.
+    #[error("--record-keep needs --record-folder")]
+    KeptNowhere,
     /// A socket can't be opened, or a file can't be made.
     #[error(transparent)]
     Hindered(Obstacle<'a>),
@@ -73,7 +81,7 @@ pub fn run<H: Host>(
         }
         Err(Unserved::Settings(bad)) => refuse_file(rt, front_of(rt), &bad),
         Err(Unserved::Names(why)) => refuse_list(rt, front_of(rt), &why),
-        Err(refused @ Unserved::Allow) => {
+        Err(refused @ (Unserved::Allow | Unserved::TwoRecords | Unserved::KeptNowhere)) => {
             eprintln!(rt; "error: {refused}")?;
             Ok(USAGE)
         }
@@ -94,9 +102,7 @@ fn serve_file<'a, H: Host>(
     sessions: Option<u32>,
     asked: &RunOptions<'a>,
 ) -> Result<Closed, Unserved<'a>> {
-    if is_overwritten(file, asked.record) {
-        return Err(Unserved::Hindered(Obstacle::Overwriting));
-    }
+    check_records(file, asked)?;
     let (settings, source) = read_source(rt, file)?;
     let Named { names, .. } = Named::read(rt, &settings, asked.names)?;
     let clock = SystemClock::new(host);
@@ -113,13 +119,25 @@ fn serve_file<'a, H: Host>(
             until_eof: asked.until_eof.then_some(rt.stdin()),
             status: entrances.status.as_ref(),
             needs_centre: asked.needs_centre,
-            is_recorded: asked.record.is_some(),
+            is_recorded: asked.record.is_some() || asked.record_folder.is_some(),
             process: shown.process(),
         },
         journal: &journal,
         clock: &clock,
     };
-    site.serve_asked(rt, settings, asked)
+    site.serve_asked(rt, settings, source, asked)
+}
+
+/// Whether a record can be taken as it is asked for, by the options alone.
+fn check_records<'a>(file: &str, asked: &RunOptions<'_>) -> Result<(), Unserved<'a>> {
+    if is_overwritten(file, asked.record) {
+        return Err(Unserved::Hindered(Obstacle::Overwriting));
+    }
+    match (asked.record, asked.record_folder, asked.record_keep) {
+        (Some(_), Some(_), _) => Err(Unserved::TwoRecords),
+        (_, None, Some(_)) => Err(Unserved::KeptNowhere),
+        _ => Ok(()),
+    }
 }
 
 /// Listens, and begins the journal.
@@ -229,17 +247,47 @@ fn begun_journal<'a, H: Host>(
     Ok(journal)
 }
 
-/// The files of a record: that of the steps, and that of the replies.
-fn record_files<'a>(rt: &HostRuntime, path: &'a str) -> Result<(File, File), Unserved<'a>> {
-    let answers = format!(in rt.alloc(); "{path}{ANSWERS}")?;
-    let steps = match File::create(rt, path) {
+/// The files of a record, which are made: that of the steps, and that of the replies.
+fn record_files<'a>(rt: &HostRuntime, path: &'a str) -> Result<PieceFiles, Unserved<'a>> {
+    let answers_path = format!(in rt.alloc(); "{path}{ANSWERS}")?;
+    let steps = match new_file(rt, path) {
         Ok(steps) => steps,
         Err(error) => return Err(Unserved::Hindered(Obstacle::unmade(path, "", error.kind()))),
     };
-    match File::create(rt, answers.as_str()) {
-        Ok(answers) => Ok((steps, answers)),
-        Err(error) => Err(Unserved::Hindered(Obstacle::unmade(path, ANSWERS, error.kind()))),
+    match new_file(rt, answers_path.as_str()) {
+        Ok(answers) => Ok(PieceFiles { steps, answers }),
+        Err(error) => {
+            let _ = fs::remove_file(rt, path);
+            Err(Unserved::Hindered(Obstacle::unmade(path, ANSWERS, error.kind())))
+        }
     }
+}
+
+/// A file that is made and may be written.
+fn new_file(rt: &HostRuntime, path: &str) -> io::Result<File> {
+    OpenOptions::new()
+        .write(true)
+        .create_new(true)
+        .open(rt, path)
+}
+
+/// The first files of a record in a folder, and what gives the others.
+fn folder_files<'r, 'a>(
+    rt: &'r HostRuntime,
+    folder: &'a str,
+    wall: u64,
+    source: Source<'_>,
+    asked: &RunOptions<'_>,
+) -> Result<(PieceFiles, FolderPieces<'r>), Unserved<'a>> {
+    let keeping = Keeping {
+        of_file: u64::from(asked.record_size),
+        of_runs: asked.record_keep.map(u64::from),
+    };
+    let begun = match about_run(rt, source.file, &source.digest) {
+        Ok(about) => begin_run(rt, folder, keeping, wall, about.as_str()),
+        Err(error) => Err(error),
+    };
+    begun.map_err(|error| Unserved::Hindered(Obstacle::unmade(folder, "", error.kind())))
 }
 
 /// What is served, and what is told of it.
@@ -259,14 +307,20 @@ impl<'a, H: Host> Site<'a, H> {
         &self,
         rt: &HostRuntime,
         settings: Settings,
+        source: Source<'_>,
         asked: &RunOptions<'b>,
     ) -> Result<Closed, Unserved<'b>> {
-        match asked.record {
-            Some(path) => {
+        let megabytes = u64::from(asked.record_size);
+        match (asked.record, asked.record_folder) {
+            (Some(path), _) => {
                 let files = record_files(rt, path)?;
-                Ok(self.serve_recorded(settings, files, u64::from(asked.record_size))?)
+                Ok(self.serve_recorded(settings, files, OnePiece { megabytes }, megabytes)?)
             }
-            None => Ok(self.serve(settings, &OpenGate)?),
+            (None, Some(folder)) => {
+                let (files, pieces) = folder_files(rt, folder, self.clock.wall(), source, asked)?;
+                Ok(self.serve_recorded(settings, files, pieces, megabytes)?)
+            }
+            (None, None) => Ok(self.serve(settings, &OpenGate)?),
         }
     }
 
@@ -284,18 +338,19 @@ impl<'a, H: Host> Site<'a, H> {
         )
     }
 
-    /// Serves, and takes each step down in files of so many megabytes at most.
-    fn serve_recorded(
+    /// Serves, and takes each step down in files of so many megabytes at most, and in what follows them.
+    fn serve_recorded<P: Pieces<File> + Send + Drop>(
         &self,
         settings: Settings,
-        files: (File, File),
+        files: PieceFiles,
+        pieces: P,
         megabytes: u64,
     ) -> Result<Closed, Memory> {
         let capture = Capture::new(self.alloc, megabytes)?;
         let kept = &capture;
         let (_, closed) = thread::join(
             self.host,
-            move || self.write_record(kept, files),
+            move || self.write_record(kept, files, pieces),
             move || self.serve_into(kept, settings),
         );
         // The journal's thread has ended before the capture did.
@@ -316,9 +371,14 @@ impl<'a, H: Host> Site<'a, H> {
     }
 
     /// Writes what is captured, and tells where that ends before the gateway does.
-    fn write_record(&self, capture: &Capture, files: (File, File)) {
-        let (mut steps, mut answers) = files;
-        let ended = capture.write_on(self.host, &mut steps, &mut answers);
+    fn write_record<P: Pieces<File> + Drop>(
+        &self,
+        capture: &Capture,
+        files: PieceFiles,
+        pieces: P,
+    ) {
+        let PieceFiles { steps, answers } = files;
+        let ended = capture.write_pieces(self.host, steps, answers, pieces);
         tell_end(self.host, self.journal, self.clock.wall(), ended);
     }
 }

@@ -4,7 +4,7 @@
 ghost use Rattle.std.specs.Prelude.{◌≡◌, [], ◌∷◌, codes, None, Some, false, true};
 ghost use Rattle.clap.specs.Words.{fault_of};
 ghost use Rattle.clap.specs.declared.error.ErrorKind.TheVariants.{DisplayHelp, InvalidSubcommand, MissingRequiredArgument, MissingSubcommand, UnknownArgument, ValueValidation};
-ghost use Rattle.gw_command_line.specs.CommandLine.{gateway, no_options, spelled, to_check, to_points, to_replay, to_run, to_translate};
+ghost use Rattle.gw_command_line.specs.CommandLine.{gateway, no_options, spelled, to_check, to_pcap, to_points, to_replay, to_run, to_translate};
 
 /// Five lines that ask for something, and five that are refused, with the kinds of error that may
 /// say so. A word that is no subcommand may be called an unknown argument too.
@@ -108,4 +108,20 @@ pub fn shown_lines()
         (codes "gateway" ∷ codes "run" ∷ codes "a" ∷ codes "--health-needs-centre" ∷ []) ≡ [] }
     ensures flag_spelled { spelled (codes "gateway" ∷ codes "run" ∷ codes "a" ∷ codes "--health-needs-centre" ∷ [])
         ≡ Some (to_run (codes "a") None (record no_options { needs_centre = true })) }
+{}
+
+/// Lines with a folder of records and how much it keeps; and lines of `gateway pcap`, of which the last doesn't say where the
+/// capture goes.
+#[tactic(auto, unfolding(clap::proofs::OnLiterals::clap_on_literals))]
+pub fn record_lines()
+    ensures folder_taken { fault_of gateway (codes "gateway" ∷ codes "run" ∷ codes "a" ∷ codes "--record-folder"
+        ∷ codes "b" ∷ codes "--record-keep" ∷ codes "1" ∷ []) ≡ [] }
+    ensures folder_spelled { spelled (codes "gateway" ∷ codes "run" ∷ codes "a" ∷ codes "--record-folder"
+        ∷ codes "b" ∷ codes "--record-keep" ∷ codes "1" ∷ [])
+        ≡ Some (to_run (codes "a") None
+        (record no_options { record_folder = Some (codes "b"); record_keep = Some 1 })) }
+    ensures pcap_taken { fault_of gateway (codes "gateway" ∷ codes "pcap" ∷ codes "a" ∷ codes "b" ∷ []) ≡ [] }
+    ensures pcap_spelled { spelled (codes "gateway" ∷ codes "pcap" ∷ codes "a" ∷ codes "b" ∷ [])
+        ≡ Some (to_pcap (codes "a") (codes "b")) }
+    ensures no_out { fault_of gateway (codes "gateway" ∷ codes "pcap" ∷ codes "a" ∷ []) ≡ MissingRequiredArgument ∷ [] }
 {}

@@ -1,0 +1,82 @@
+//! `gateway pcap`: a record as a capture of packets.
+
+use crate::failure_of_file::FileFailure;
+use crate::refusal::{REFUSED, complain, refuse_file, refuse_for};
+use crate::settings_file::settings_of;
+use gw_map::Settings;
+use gw_pcap::{Captured, Stop, capture};
+use gw_text::Plain;
+use std::fs::File;
+use std::io::{self, BufReader, BufWriter, Write};
+use thiserror::Error;
+
+/// What whoever makes a capture is told.
+const MADE_ANEW: &str =
+    "addresses, link frames, transport and TCP are made anew: this isn't what was on the wire";
+
+/// What whoever makes one of a record that was cut is told too.
+const CUT: &str = "the last line has no end, and is left out";
+
+/// Why a capture isn't whole.
+#[derive(Debug, Drop, Error)]
+enum Unmade<'a> {
+    /// Its file can't be made: its name, and why.
+    #[error("can't write the capture {out}: {1}", out = Plain(*.0))]
+    NoFile(&'a str, FileFailure),
+    /// It ends early: its name, and why.
+    #[error("the capture {out} isn't whole: {1}", out = Plain(*.0))]
+    Ended(&'a str, Stop),
+}
+
+/// `gateway pcap`, from standard input to a file that is made; gives the status.
+pub fn pcap(rt: &HostRuntime, file: &str, out: &str) -> io::Result<u8> {
+    let settings = match settings_of(rt, file) {
+        Ok(settings) => settings,
+        Err(bad) => return refuse_file(rt, "", &bad),
+    };
+    let made = match File::create_new(rt, out) {
+        Ok(made) => made,
+        Err(error) => {
+            let failure = FileFailure::of(error.kind(), "folder");
+            return refuse_capture(rt, &Unmade::NoFile(out, failure));
+        }
+    };
+    match write_capture(rt, settings, made) {
+        Ok(captured) => tell_captured(rt, captured),
+        Err(Stop::Memory) => refuse_for(rt, "memory"),
+        Err(stop) => refuse_capture(rt, &Unmade::Ended(out, stop)),
+    }
+}
+
+/// Writes what standard input shows.
+fn write_capture(rt: &HostRuntime, settings: Settings, made: File) -> Result<Captured, Stop> {
+    let mut reader = BufReader::new(rt.alloc(), rt.reader())?;
+    let mut writer = BufWriter::new(rt.alloc(), made)?;
+    let captured = capture(rt.alloc(), settings, &mut reader, &mut writer)?;
+    writer.flush()?;
+    Ok(captured)
+}
+
+/// Tells how many packets were written, and of what; gives the status.
+fn tell_captured(rt: &HostRuntime, captured: Captured) -> io::Result<u8> {
+    if let Some(line) = captured.refused {
+        println!(rt; "refused line {line}")?;
+    }
+    println!(rt; "packets {}", captured.packets)?;
+    if captured.is_cut {
+        complain(rt, "", &CUT);
+    }
+    complain(rt, "", &MADE_ANEW);
+    Ok(if captured.refused.is_some() {
+        REFUSED
+    } else {
+        0
+    })
+}
+
+/// Tells why there is no capture, or no whole one; gives the status.
+fn refuse_capture(rt: &HostRuntime, why: &Unmade<'_>) -> io::Result<u8> {
+    let status = refuse_for(rt, "capture")?;
+    complain(rt, "", why);
+    Ok(status)
+}
