@@ -3,3 +3,4 @@ pub mod Due
 pub mod Framing
 pub mod Hearing
 pub mod Worked
+pub mod Whole

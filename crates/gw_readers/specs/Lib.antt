@@ -1,3 +1,4 @@
+pub mod Confirmed
 pub mod Confirms
 pub mod Frames
 pub mod Heard
