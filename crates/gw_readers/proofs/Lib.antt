@@ -4,3 +4,4 @@ pub mod Framing
 pub mod Hearing
 pub mod Worked
 pub mod Whole
+pub mod Ended
