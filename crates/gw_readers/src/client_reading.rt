@@ -2,6 +2,7 @@
 ghost use Rattle.std.specs.Prelude.{◌≡◌, ◌||◌, [], IfNone, IfSome, Ok, Some};
 ghost use Rattle.iec_apci.specs.Calls.{ending_after_piece, reading_of_ending};
 ghost use Rattle.gw_ends.specs.Ends.{is_read_fault, IsOfSteps, MayEnd};
+ghost use Rattle.gw_shared.specs.Turn.{Pass as Seen};
 ghost use Rattle.gw_readers.specs.Frames.{end_by, Asks, Frames, Loses, Reads, Takes, TakesAnswer};
 
 use gw_ends::{Arrival, Incoming, WorkerEnd};
@@ -42,6 +43,8 @@ pub fn client_reader<'a, L: Course, S: Calls<L>, R: Wait, I: Incoming, C: Clock,
     ensures own { result.0.actor ≡ pass.actor }
     ensures framed { Frames L.setup client pass result.0 (I.given input.old) (I.given input.new) result.1 }
     ensures end { MayEnd result.1 }
+    // Its last call told that the client is lost, unless the core closed the connection.
+    ensures lost { (mid : Seen) × Loses L.setup client mid result.0 result.1 }
     // It ended by a failed read exactly where one failed, unless one had before.
     ensures failed { I.has_failed input.new ≡ (is_read_fault (Some result.1) || I.has_failed input.old) }
 {

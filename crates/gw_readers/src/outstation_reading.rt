@@ -3,6 +3,8 @@ ghost use Rattle.std.specs.Prelude.{◌≡◌, ◌≤◌, ◌||◌, [], ◌∷�
 ghost use Rattle.dnp_link.specs.FrameContent.{content};
 ghost use Rattle.dnp_receive.specs.Delivery.{response_at};
 ghost use Rattle.gw_ends.specs.Ends.{is_read_fault, is_write_fault, IsOfFrames, IsOfSilence, MayEndBetween};
+ghost use Rattle.gw_shared.specs.Turn.{Pass as Seen};
+ghost use Rattle.gw_threads.specs.Sends.{TellsOutstationLoss};
 ghost use Rattle.gw_readers.specs.Confirms.{confirmation_in, Confirms, ReadsAll, ReadsOn};
 ghost use Rattle.gw_readers.specs.Heard.{Hears, HearsFrames, HearsOctets, HearsOf, HearsPiece, IsDrained};
 
@@ -106,6 +108,8 @@ pub fn outstation_reader<
     ensures confirmed { ReadsOn L.setup outstation pass result.0 result.1 (is_write_fault (Some result.2)) }
     ensures heard { Hears L.setup outstation receiver pass result.0 (I.given input.old) (I.given input.new) result.2 }
     ensures end { MayEndBetween result.2 }
+    // Its last call told that the outstation is lost.
+    ensures lost { (mid : Seen) × TellsOutstationLoss L.setup outstation mid result.0 }
     // It ended by a failed read exactly where one failed, unless one had before.
     ensures failed { I.has_failed input.new ≡ (is_read_fault (Some result.2) || I.has_failed input.old) }
 {

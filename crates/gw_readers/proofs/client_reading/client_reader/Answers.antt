@@ -26,3 +26,10 @@ returns-clause-framed g c =
 
 pub returns-clause-own : goal.returns-clause-own
 returns-clause-own g c = framed_own _ _ _ _ _ _ _ (returns-clause-framed g c)
+
+pub returns-clause-lost : goal.returns-clause-lost
+returns-clause-lost g c = (
+  c.read_on-end.new.self.pass,
+  subst (λ (k : ℕ). Loses g.L.Course.setup k c.read_on-end.new.self.pass c.lose.new.self.pass c.read_on-end.result)
+      c.read_on-end.ensures.client c.lose.ensures,
+)

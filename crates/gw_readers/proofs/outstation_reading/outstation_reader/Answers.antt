@@ -27,3 +27,6 @@ returns-clause-heard g c =
     c.args.receiver c.read_on-end.new.receiver c.new-feed.result c.read_on-end.new.feed
     (g.I.Incoming.given c.args.input.now) (g.I.Incoming.given c.read_on-end.new.input) c.read_on-end.result
     c.new-feed.ensures c.read_on-end.ensures.heard c.lose_outstation.ensures.told
+
+pub returns-clause-lost : goal.returns-clause-lost
+returns-clause-lost g c = (c.read_on-end.new.self.pass, c.lose_outstation.ensures.told)
