@@ -7,6 +7,7 @@ ghost use Rattle.gw_steps.specs.declared.step.Reply.TheVariants as replies;
 ghost use Rattle.gw_shared.specs.Reached.{entry};
 ghost use Rattle.gw_threads.specs.Calls.{all_given, given_by};
 ghost use Rattle.gw_threads.specs.Sends.{is_poll, IsTowards, request_given};
+ghost use Rattle.gw_threads.specs.Ticking.{IsTick};
 ghost use Rattle.gw_threads.specs.Written.{apdu_given, is_pump, IsFor};
 
 /// Of two pumps for client 0 each gave an APDU, and one for client 1 between them gave another; the history has the newest
@@ -37,4 +38,13 @@ pub fn towards_one_outstation()
     ensures other_loss { (m : ℕ) → IsTowards 2 (steps.OutstationDown 1 m) → ⊥ }
     ensures up { (m : ℕ) → IsTowards 2 (steps.OutstationUp 2 m) → ⊥ }
     ensures tick { (m : ℕ) → IsTowards 2 (steps.Tick m) → ⊥ }
+{}
+
+/// The clock's worker makes ticks; it tells no loss, and asks for nothing.
+pub fn ticks_alone()
+    ensures own { (m : ℕ) → IsTick (steps.Tick m) }
+    ensures client_loss { (m : ℕ) → IsTick (steps.ClientDown 0 m) → ⊥ }
+    ensures outstation_loss { (m : ℕ) → IsTick (steps.OutstationDown 0 m) → ⊥ }
+    ensures pump { (m : ℕ) → IsTick (steps.Pump 0 m) → ⊥ }
+    ensures poll { (m w : ℕ) → IsTick (steps.Poll 0 m w) → ⊥ }
 {}
