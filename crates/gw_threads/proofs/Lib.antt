@@ -6,3 +6,4 @@ pub mod Standing
 pub mod TicksAlone
 pub mod Alone
 pub mod Whole
+pub mod Taken

@@ -1,17 +1,19 @@
 //! Laws of calls, and of what is sent.
-ghost use Rattle.std.specs.Prelude.{ℕ, Bool, List};
+ghost use Rattle.std.specs.Prelude.{◌≡◌, ◌++◌, ℕ, Bool, List, Some, take};
 ghost use Rattle.iec_apci.specs.declared.buffer.ApduBuf.{ApduBuf};
 ghost use Rattle.one_log.specs.Follows.{Known};
-ghost use Rattle.gw_ends.specs.Octets.{octets_in};
+ghost use Rattle.gw_ends.specs.Octets.{joined, octets_in};
 ghost use Rattle.gw_ends.specs.declared.sent.Sending.{Sending};
+ghost use Rattle.gw_ends.specs.declared.worker_end.WorkerEnd.TheVariants.{Stopping, WriteFault};
 ghost use Rattle.gw_map.specs.Settings.{Setup};
+ghost use Rattle.gw_shared.specs.Reached.{entries_of};
 ghost use Rattle.gw_shared.specs.Turn.{Pass};
 ghost use Rattle.gw_threads.specs.Sends.{AreSent, SendsAll};
 ghost use Rattle.gw_threads.specs.Standing.{SentAlone, StandAlone};
 ghost use Rattle.gw_threads.specs.Whole.{IsWhole};
 ghost use Rattle.gw_threads.specs.Writers.{SentByPolls};
-ghost use Rattle.gw_threads.specs.Written.{IsPutOut};
-ghost use Rattle.gw_threads.specs.Calls.{AreCalls, Call};
+ghost use Rattle.gw_threads.specs.Written.{apdu_given, AreAll, Asked, is_pump, IsPutOut, Writes};
+ghost use Rattle.gw_threads.specs.Calls.{all_given, AreCalls, Call, given_by};
 
 /// Calls that are made with a pass one after another are, since the pass knew a beginning of the one history, all calls of
 /// its actor in it, each once, in their order.
@@ -39,4 +41,20 @@ pub fn writers_send_what_polls_give()
 #[tactic(auto, using(crate::proofs::Whole::put_out_whole))]
 pub fn put_out_apdus_are_whole()
     ensures { (client : ℕ) (apdu : ApduBuf) → IsPutOut client apdu → IsWhole (octets_in apdu) }
+{}
+
+/// The octets that a client's writer hands over are those of the APDUs that its pumps were answered with, each once, in their
+/// order; where a write fails, a front of them. Where all the client's pumps are its own, these are all that the history has.
+pub fn writers_hand_over_what_pumps_give()
+    ensures calls { (setup : Setup) (client : ℕ) (mine after : Pass) (before now : List ℕ)
+        → Writes (Asked setup client mine after) (Some before) (Some now) Stopping
+        → (calls : List Call) × (AreCalls setup mine calls after × (now ≡ before ++ joined (given_by apdu_given calls))) }
+    ensures front { (setup : Setup) (client : ℕ) (mine after : Pass) (before now : List ℕ)
+        → Writes (Asked setup client mine after) (Some before) (Some now) WriteFault
+        → (calls : List Call) × (AreCalls setup mine calls after
+        × ((count : ℕ) × (now ≡ before ++ take count (joined (given_by apdu_given calls))))) }
+    ensures history { (client : ℕ) (mine after : Pass) (before now : List ℕ)
+        → Writes (AreAll client mine after) (Some before) (Some now) Stopping
+        → (apdus : List ApduBuf) × ((all_given (is_pump client) apdu_given (entries_of after.seen)
+        ≡ all_given (is_pump client) apdu_given (entries_of mine.seen) ++ apdus) × (now ≡ before ++ joined apdus)) }
 {}
