@@ -1,5 +1,5 @@
 -- What a client's writer is given of the shared core.
-use Rattle.std.proofs.Common.{◌≡◌, inl, inr, false, ℕ, ◌+◌, List, [], ◌∷◌, ◌++◌, length, take, Option, Some, None, Result, Ok, Err, refl, sym, ap, subst, ◌∙◌}
+use Rattle.std.proofs.Common.{◌≡◌, inl, inr, false, true, ℕ, ◌+◌, List, [], ◌∷◌, ◌++◌, length, take, Option, Some, None, Result, Ok, Err, refl, sym, ap, subst, ◌∙◌}
 use Rattle.std.specs.List.{AllByRecursion}
 use Rattle.std.specs.Io.KnownBytes.{Appends}
 use Rattle.iec_apci.specs.declared.buffer.ApduBuf.{ApduBuf}
@@ -8,6 +8,7 @@ use Rattle.gw_steps.specs.declared.step.Step.TheVariants as steps
 use Rattle.gw_steps.specs.declared.step.Reply.{Reply}
 use Rattle.gw_steps.specs.declared.step.Reply.TheVariants.{Apdu, Closed, Done, Nothing, Request, Taken, Ticked, Verdict}
 use Rattle.gw_steps.specs.declared.step.StepFault.{StepFault}
+use Rattle.gw_ends.specs.Ends.{is_write_fault}
 use Rattle.gw_ends.specs.PutOut.{Gave, Given, GivesAll, IsGathered, IsPut, MayHaveEnded, is_apdu, joined, writing_end}
 use Rattle.gw_shared.specs.Turn.{Pass}
 use Rattle.gw_shared.specs.Pumping.{ArePumped, IsGivenTo, IsPumpedRun, PumpsAll, PumpsOnce}
@@ -256,6 +257,15 @@ settled setup client mine mid after x y Unwritten wrote settles = record {
 }
 settled setup client mine mid after x y More wrote settles =
     wrote_same setup client mine mid after x y wrote settles
+
+-- a run that wasn't taken is settled by telling the loss
+pub unwritten_lost : (setup : Setup) (client : ℕ) (mid after : Pass) (put : Put) → Settles setup client mid after put
+    → is_write_fault (writing_end put) ≡ true → TellsLoss setup client mid after
+unwritten_lost setup client mid after (Ended None) settles fault = absurd (cc fault)
+unwritten_lost setup client mid after (Ended (Some (Ok reply))) settles fault = absurd (cc fault)
+unwritten_lost setup client mid after (Ended (Some (Err why))) settles fault = absurd (cc fault)
+unwritten_lost setup client mid after Unwritten settles fault = settles
+unwritten_lost setup client mid after More settles fault = absurd (cc fault)
 
 -- the actor that the worker is
 pub writes_own : (setup : Setup) (client : ℕ) (mine after : Pass) (x y : Option (List ℕ)) (end : WorkerEnd)

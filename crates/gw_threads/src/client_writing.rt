@@ -1,9 +1,10 @@
 //! The writer of a client.
-ghost use Rattle.std.specs.Prelude.{◌≡◌, ◌||◌, IfSome, Some};
+ghost use Rattle.std.specs.Prelude.{◌≡◌, ◌||◌, true, IfSome, Some};
 ghost use Rattle.gw_ends.specs.Ends.{is_write_fault, MayEndWriting};
 ghost use Rattle.gw_ends.specs.PutOut.{is_unwritten};
 ghost use Rattle.gw_shared.specs.Roles.{IsOne};
-ghost use Rattle.gw_threads.specs.Written.{AreAll, Asked, Settles, Writes, WritesIfEnded, WritesPut};
+ghost use Rattle.gw_shared.specs.Turn.{Pass as Seen};
+ghost use Rattle.gw_threads.specs.Written.{AreAll, Asked, Settles, TellsLoss, Writes, WritesIfEnded, WritesPut};
 
 use crate::gate::Gate;
 use crate::source::SharedSource;
@@ -30,6 +31,8 @@ pub fn client_writer<'a, L: Course, S: Calls<L>, R: Wait, W: Outgoing, C: Clock,
     // Where the client's pumps are left to this actor, these APDUs are all that they were answered with in that time.
     ensures all { L.roles.pumper client ≡ Some pass.actor
         → Writes (AreAll client pass result.0) (W.contents writer.old) (W.contents writer.new) result.1 }
+    // Where it ended by a failed write, its last call told that the client is lost.
+    ensures lost { is_write_fault (Some result.1) ≡ true → (mid : Seen) × TellsLoss L.setup client mid result.0 }
     ensures end { MayEndWriting result.1 }
     // It ended by a failed write exactly where one failed, unless one had before.
     ensures failed { W.has_failed writer.new ≡ (is_write_fault (Some result.1) || W.has_failed writer.old) }
@@ -52,6 +55,7 @@ fn write_on<L: Course, S: Calls<L>, R: Wait, W: Outgoing, C: Clock, G: Gate>(
     ensures client { source.new.client ≡ source.old.client }
     ensures written { Writes (Asked L.setup source.old.client source.old.pass source.new.pass)
         (W.contents writer.old) (W.contents writer.new) result }
+    ensures lost { is_write_fault (Some result) ≡ true → (mid : Seen) × TellsLoss L.setup source.old.client mid source.new.pass }
     ensures end { MayEndWriting result }
     ensures failed { W.has_failed writer.new ≡ (is_write_fault (Some result) || W.has_failed writer.old) }
 {
@@ -72,6 +76,7 @@ fn write_run<L: Course, S: Calls<L>, R: Wait, W: Outgoing, C: Clock, G: Gate>(
     ensures client { source.new.client ≡ source.old.client }
     ensures written { WritesIfEnded (Asked L.setup source.old.client source.old.pass source.new.pass)
         (W.contents writer.old) (W.contents writer.new) result }
+    ensures lost { is_write_fault result ≡ true → (mid : Seen) × TellsLoss L.setup source.old.client mid source.new.pass }
     ensures end { IfSome result MayEndWriting }
     ensures failed { W.has_failed writer.new ≡ (is_write_fault result || W.has_failed writer.old) }
 {

@@ -1,8 +1,9 @@
 //! The writer towards an outstation.
-ghost use Rattle.std.specs.Prelude.{◌≡◌, false, IfSome, MatchOption, Some};
+ghost use Rattle.std.specs.Prelude.{◌≡◌, false, true, IfSome, MatchOption, Some};
 ghost use Rattle.gw_ends.specs.Ends.{is_write_fault, MayEndWriting};
 ghost use Rattle.gw_shared.specs.Roles.{IsOne};
-ghost use Rattle.gw_threads.specs.Sends.{is_request, PollsOnce, SendsAll, SendsAllGiven, SentAll};
+ghost use Rattle.gw_shared.specs.Turn.{Pass as Seen};
+ghost use Rattle.gw_threads.specs.Sends.{is_request, PollsOnce, SendsAll, SendsAllGiven, SentAll, TellsOutstationLoss};
 
 use crate::call::make_call;
 use crate::gate::{Gate, Place};
@@ -40,6 +41,8 @@ pub fn outstation_writer<
     ensures sent { SendsAll L.setup outstation pass result.0 result.1 (is_write_fault (Some result.2)) }
     // Where the outstation's polls are left to this actor, these requests are all that they were answered with.
     ensures all { L.roles.poller outstation ≡ Some pass.actor → SendsAllGiven outstation pass result.0 result.1 }
+    // Where it ended by a failed write, its last call told that the outstation is lost.
+    ensures lost { is_write_fault (Some result.2) ≡ true → (mid : Seen) × TellsOutstationLoss L.setup outstation mid result.0 }
     ensures end { MayEndWriting result.2 }
 {
     pass.attest();
@@ -71,6 +74,7 @@ fn write_next<L: Course, N: LineCourse, S: Calls<L>, R: Wait, W: Outgoing, C: Cl
 ) -> Option<WorkerEnd>
     requires may { IsOne (L.roles.poller outstation) pass.old.actor }
     ensures sent { SentAll L.setup outstation pass.old pass.new mine.old mine.new (is_write_fault result) }
+    ensures lost { is_write_fault result ≡ true → (mid : Seen) × TellsOutstationLoss L.setup outstation mid pass.new }
     ensures end { IfSome result MayEndWriting }
 {
     rest::<L, S, R, C>(rt, shared, outstation, clock);

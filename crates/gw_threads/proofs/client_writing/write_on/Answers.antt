@@ -1,6 +1,6 @@
 use Rattle.std.proofs.Common.{ℕ, ◌||◌, Bool, Some, ap, ◌∙◌, refl, subst}
 use Rattle.gw_ends.specs.Ends.{is_write_fault}
-use Rattle.gw_threads.specs.Written.{Asked, Writes, Wrote}
+use Rattle.gw_threads.specs.Written.{Asked, TellsLoss, Writes, Wrote}
 use Rattle.gw_threads.proofs.Gathering.{wrote_none, wrote-then, writes-then}
 use Rattle.gw_threads.proofs.client_writing.write_on.Goals as goal
 
@@ -38,3 +38,10 @@ pub returns-in-Some-write_run-clause-failed : goal.returns-in-Some-write_run-cla
 returns-in-Some-write_run-clause-failed g c =
     c.in-Some-write_run.ensures.failed
     ∙ ap (λ (b : Bool). is_write_fault (Some c.in-Some-write_run.end) || b) c.runs.invariant.failed
+
+pub returns-in-Some-write_run-clause-lost : goal.returns-in-Some-write_run-clause-lost
+returns-in-Some-write_run-clause-lost g c = λ fault.
+    let told = c.in-Some-write_run.ensures.lost fault in (
+      told.0,
+      subst (λ (k : ℕ). TellsLoss g.L.Course.setup k told.0 c.write_run.new.source.pass) c.runs.invariant.client told.1,
+    )

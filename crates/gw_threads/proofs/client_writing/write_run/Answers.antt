@@ -2,8 +2,8 @@ use Rattle.std.proofs.Common.{ℕ, Option, ◌||◌, Bool, sym, ap, ◌∙◌, s
 use Rattle.gw_ends.specs.declared.worker_end.WorkerEnd.{WorkerEnd}
 use Rattle.gw_ends.specs.Ends.{is_write_fault}
 use Rattle.gw_ends.proofs.Failed.{writing_fails}
-use Rattle.gw_threads.specs.Written.{Asked, Settles, WritesIfEnded}
-use Rattle.gw_threads.proofs.Gathering.{settled}
+use Rattle.gw_threads.specs.Written.{Asked, Settles, TellsLoss, WritesIfEnded}
+use Rattle.gw_threads.proofs.Gathering.{settled, unwritten_lost}
 use Rattle.gw_threads.proofs.client_writing.write_run.Goals as goal
 
 pub returns-clause-written : goal.returns-clause-written
@@ -25,3 +25,13 @@ returns-clause-failed g c =
     c.put_run-put.ensures.failed
     ∙ ap (λ (b : Bool). b || g.W.Outgoing.has_failed c.args.writer.now)
     (sym (writing_fails c.put_run-put.result) ∙ ap is_write_fault (sym c.end.ensures))
+
+pub returns-clause-lost : goal.returns-clause-lost
+returns-clause-lost g c = λ fault.
+    let mid = c.put_run-put.new.source.pass in
+    let after = c.settle.new.source.pass in (
+      mid,
+      subst (λ (k : ℕ). TellsLoss g.L.Course.setup k mid after) c.put_run-put.ensures.client
+          (unwritten_lost g.L.Course.setup c.put_run-put.new.source.client mid after c.put_run-put.result
+          c.settle.ensures.settles (ap is_write_fault (sym c.end.ensures) ∙ fault)),
+    )
