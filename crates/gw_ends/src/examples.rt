@@ -1,20 +1,29 @@
 //! What a writer took of a line, and the octets of frames and APDUs, by examples.
-ghost use Rattle.std.specs.Prelude.{◌≡◌, ℕ, List, [], ◌∷◌, ◌++◌, true, false, take, Some};
+ghost use Rattle.std.specs.Prelude.{◌≡◌, ℕ, List, [], ◌∷◌, ◌++◌, true, false, take, None, Some, Ok, Err};
 ghost use Rattle.dnp_app.specs.Requests.{request as request_of};
 ghost use Rattle.iec_apci.specs.Apdu.{Supervisory, Unnumbered};
 ghost use Rattle.iec_apci.specs.Buffer.{buffer_of};
 ghost use Rattle.iec_apci.specs.declared.apdu.Signal.TheVariants.{TestCon};
+ghost use Rattle.gw_steps.specs.declared.step.Reply.TheVariants as replies;
+ghost use Rattle.gw_steps.specs.declared.step.StepFault.TheVariants.{Spent};
+ghost use Rattle.gw_ends.specs.declared.ends.Arrival.TheVariants as arrivals;
+ghost use Rattle.gw_ends.specs.declared.putting.Put.TheVariants as puts;
 ghost use Rattle.gw_ends.specs.declared.sent.Sent.TheVariants.{Confirm, Reply, Request};
+ghost use Rattle.gw_ends.specs.declared.worker_end.WorkerEnd.TheVariants as ends;
+ghost use Rattle.gw_ends.specs.Ends.{is_fault, is_read_fault, is_write_fault, reading_end};
 ghost use Rattle.gw_ends.specs.Framed.{status_request};
 ghost use Rattle.gw_ends.specs.Octets.{joined, octets_in};
+ghost use Rattle.gw_ends.specs.PutOut.{is_unwritten, writing_end};
 ghost use Rattle.gw_ends.specs.Sent.{is_cut_off, sent_octets, Took, TookAll};
 
-/// One worker sent a frame, which was taken whole; then another one sent a frame, of which the first two octets were taken.
+/// One worker sent a frame, which was taken whole; then another one sent a frame, of which the first two octets were taken. Where
+/// nothing was sent, nothing was taken.
 pub fn two_frames()
     ensures took { (own peer : ℕ) (a b : List ℕ) → TookAll own peer (Some []) (Some (a ++ take 2 b))
         ((0, record { what = Reply b; whole = false }) ∷ (1, record { what = Reply a; whole = true }) ∷ []) }
     ensures cut { (a b : List ℕ) → is_cut_off (record { what = Reply b; whole = false }
         ∷ record { what = Reply a; whole = true } ∷ []) ≡ true }
+    ensures nothing { (own peer : ℕ) → TookAll own peer (Some []) (Some (1 ∷ [])) [] → ⊥ }
     ensures whole { (a : List ℕ) → is_cut_off (record { what = Reply a; whole = true } ∷ []) ≡ false }
 {}
 
@@ -47,4 +56,18 @@ pub fn octets_of_apdus()
     ensures one { octets_in (buffer_of (Unnumbered TestCon)) ≡ 0x68 ∷ 0x04 ∷ 0x83 ∷ 0x00 ∷ 0x00 ∷ 0x00 ∷ [] }
     ensures two { joined (buffer_of (Unnumbered TestCon) ∷ buffer_of (Supervisory 1) ∷ [])
         ≡ 0x68 ∷ 0x04 ∷ 0x83 ∷ 0x00 ∷ 0x00 ∷ 0x00 ∷ 0x68 ∷ 0x04 ∷ 0x01 ∷ 0x00 ∷ 0x02 ∷ 0x00 ∷ [] }
+{}
+
+/// A reader ends where the octets end or a read fails, and not by octets or since none come yet. A writer ends by a failed write, or
+/// where no further step can be counted or it is to stop; not by a reply that is no APDU, nor since there may be more.
+pub fn how_workers_end()
+    ensures reading { (n : ℕ) → (reading_end (arrivals.Octets n) ≡ None) × (reading_end arrivals.Later ≡ None)
+        × (reading_end arrivals.End ≡ Some ends.EndOfInput) × (reading_end arrivals.Fault ≡ Some ends.ReadFault) }
+    ensures failed_read { (is_fault arrivals.Fault ≡ true) × (is_read_fault (Some ends.ReadFault) ≡ true)
+        × (is_read_fault (Some ends.EndOfInput) ≡ false) }
+    ensures writing { (writing_end (puts.Ended (Some (Ok replies.Nothing))) ≡ None) × (writing_end puts.More ≡ None)
+        × (writing_end (puts.Ended (Some (Err Spent))) ≡ Some ends.Stopping) × (writing_end (puts.Ended None) ≡ Some ends.Stopping)
+        × (writing_end puts.Unwritten ≡ Some ends.WriteFault) }
+    ensures failed_write { (is_unwritten (Some puts.Unwritten) ≡ true) × (is_write_fault (Some ends.WriteFault) ≡ true)
+        × (is_write_fault (Some ends.Stopping) ≡ false) }
 {}
