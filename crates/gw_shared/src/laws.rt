@@ -1,10 +1,13 @@
 //! Laws of calls.
-ghost use Rattle.std.specs.Prelude.{◌≡◌, ◌∷◌, ℕ, [], length, take, Ok, Result};
+ghost use Rattle.std.specs.Prelude.{◌≡◌, ◌∷◌, ℕ, List, [], length, take, Ok, Result};
 ghost use Rattle.gw_map.specs.Settings.{Setup};
 ghost use Rattle.gw_steps.specs.declared.step.Reply.{Reply};
 ghost use Rattle.gw_steps.specs.declared.step.Step.{Step};
 ghost use Rattle.gw_steps.specs.declared.step.StepFault.{StepFault};
-ghost use Rattle.gw_shared.specs.Reached.{entries_of, entry};
+ghost use Rattle.gw_steps.specs.Effects.{effects_with, no_effects};
+ghost use Rattle.gw_steps.specs.Runs.{state_after};
+ghost use Rattle.gw_shared.specs.Reached.{Deed, entries_of, entry};
+ghost use Rattle.gw_shared.specs.Told.{newest_effects};
 ghost use Rattle.gw_shared.specs.Turn.{Answers, Pass};
 
 /// The call of number n is the nth of the one history, so the first has number 1: the history has as many calls as its number
@@ -15,4 +18,15 @@ pub fn calls_are_numbered()
         → Answers setup mine after step (number, reply) → number ≡ length after.seen }
     ensures newest { (setup : Setup) (mine after : Pass) (step : Step) (number : ℕ) (reply : Reply)
         → Answers setup mine after step (number, Ok reply) → take 1 (entries_of after.seen) ≡ entry step (Ok reply) ∷ [] }
+{}
+
+/// What an actor is told of its newest call is what that step did on the state before it; before its first call it is nothing.
+#[tactic(auto, using(crate::proofs::Telling::effects_then))]
+pub fn newest_calls_are_told()
+    ensures newest { (setup : Setup) (actor : ℕ) (step : Step) (reply : Result Reply StepFault) (past : List Deed)
+        → newest_effects setup actor ((actor, entry step reply) ∷ past)
+        ≡ effects_with setup (state_after setup (entries_of past)) step reply }
+    ensures first { (setup : Setup) (actor : ℕ) → newest_effects setup actor [] ≡ no_effects }
+    ensures others { (setup : Setup) (step : Step) (reply : Result Reply StepFault) (past : List Deed)
+        → newest_effects setup 0 ((1, entry step reply) ∷ past) ≡ newest_effects setup 0 past }
 {}
