@@ -6,3 +6,4 @@ pub mod Making
 pub mod Reaching
 pub mod Telling
 pub mod Numbers
+pub mod Worked

@@ -3,9 +3,11 @@ ghost use Rattle.std.specs.Prelude.{◌≡◌, [], ◌∷◌, Ok};
 ghost use Rattle.gw_steps.specs.declared.step.Step.TheVariants as steps;
 ghost use Rattle.gw_steps.specs.declared.step.Reply.TheVariants as replies;
 ghost use Rattle.gw_shared.specs.Example.{left};
+ghost use Rattle.gw_shared.specs.Pumping.{MayGoOn};
 ghost use Rattle.gw_shared.specs.Reached.{entry};
 ghost use Rattle.gw_shared.specs.Roles.{KeepsRoles, MayMake};
-ghost use Rattle.gw_shared.specs.Turn.{last_call};
+ghost use Rattle.gw_shared.specs.Turn.{last_call, Pass};
+ghost use Rattle.gw_shared.specs.declared.pumped.Pumped.TheVariants.{More};
 
 /// Actor 7 alone pumps for client 3, and actor 5 alone polls outstation 2; anybody pumps for client 2, polls outstation 0, and
 /// makes ticks.
@@ -24,4 +26,9 @@ pub fn calls_are_left()
 /// As many calls can be counted as 64 bits count.
 pub fn counted_by_64_bits()
     ensures { last_call ≡ 18446744073709551615 }
+{}
+
+/// A run of pumps that made no call, and gave nothing, has ended: it isn't told as one behind which there may be more.
+pub fn pumps_get_on()
+    ensures { (p : Pass) → MayGoOn p p [] More → ⊥ }
 {}
