@@ -469,7 +469,7 @@ def names_of_a_list(scene):
     scene.has_figures(f'{outstation.labels},name="<Bay> \\\\1"', outstation_orders_total=1)
     page = shown_at(scene, "/")
     wanted = f"&lt;Bay&gt; \\1 <small>{outstation.place}</small>"
-    same("the outstation on the page", re.findall("<i>0</i> (.*?)</th><td data-column=State>connected", page), [wanted])
+    same("the outstation on the page", re.findall("<i>0</i> (.*?) <small>link address", page), [wanted])
     outstation.listener.close()
     link.connection.close()
     scene.lost(outstation, f"lost: end of input{BAY}")
