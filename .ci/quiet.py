@@ -14,7 +14,8 @@ ASKED, STATUS, SILENCE, LOOK = 0xC9, 0x0B, 60, 4.0
 
 
 def begun(scene, count):
-    """So many such outstations, which have answered that they have nothing, and their connections."""
+    """So many such outstations, which have answered that they have nothing, and their connections. All that they sent was heard: what
+    is read after the clock has leapt would begin the minute anew."""
     outstations = [scene.outstation(**UNASKED) for _ in range(count)]
     scene.bend(WALL)
     scene.start()
@@ -24,6 +25,7 @@ def begun(scene, count):
         for number, request in enumerate([INTEGRITY, ENABLE], 1):
             link.request(number, request)
             link.send(response(number))
+        link.confirmed(unsolicited(1, OFF))
     return list(zip(outstations, links))
 
 

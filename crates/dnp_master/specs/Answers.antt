@@ -53,6 +53,12 @@ operation_awaited Idle = None
 operation_awaited (Waiting w) = task_operation w.task
 operation_awaited (Selected order) = None
 
+-- the task whose request awaits its answer
+abbrev pub task_awaited : Exchange → Option Task
+task_awaited Idle = None
+task_awaited (Waiting w) = Some w.task
+task_awaited (Selected order) = None
+
 -- the time for the answer to a request has passed
 abbrev pub is_exchange_late : ℕ → Poll → Exchange → Bool
 is_exchange_late moment poll Idle = false

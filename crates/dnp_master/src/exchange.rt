@@ -1,6 +1,6 @@
 //! The request that awaits its answer.
 ghost use Rattle.std.specs.Prelude.{◌≡◌, ◌<◌, false, option_map};
-ghost use Rattle.dnp_master.specs.Answers.{command_answer, is_exchange_late, operation_awaited};
+ghost use Rattle.dnp_master.specs.Answers.{command_answer, is_exchange_late, operation_awaited, task_awaited};
 ghost use Rattle.dnp_master.specs.Fragments.{exchange_once_answered};
 ghost use Rattle.dnp_master.specs.Master.{ended, following, is_late, order_taken};
 
@@ -49,6 +49,16 @@ impl Exchange {
         match task {
             Task::Command(Operation::Select, order) if done => Exchange::Selected(order),
             _ => Exchange::Idle,
+        }
+    }
+
+    /// The task whose request awaits its answer, if one does.
+    pub fn task(self) -> Option<Task>
+        ensures { result ≡ task_awaited self }
+    {
+        match self {
+            Exchange::Waiting(awaited) => Some(awaited.task),
+            Exchange::Idle | Exchange::Selected(_) => None,
         }
     }
 

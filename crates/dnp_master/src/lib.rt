@@ -19,4 +19,5 @@ pub use master::Master;
 pub use order_examples::{
     answers_by_example, direct_operate_by_example, select_and_operate_by_example,
 };
+pub use task::Task;
 pub use verdict::{Ignored, Verdict};

@@ -19,7 +19,7 @@ ghost use Rattle.dnp_master.specs.Master.{
   task_given,
   task_request,
 };
-ghost use Rattle.dnp_master.specs.Answers.{command_answer, is_unanswered, operation_awaited};
+ghost use Rattle.dnp_master.specs.Answers.{command_answer, is_unanswered, operation_awaited, task_awaited};
 ghost use Rattle.dnp_master.specs.Fragments.{
   accepts,
   indications_in,
@@ -158,11 +158,11 @@ impl Master {
     pub fn is_due(&self, moment: u64) -> bool
         ensures { result ≡ is_some (task_given moment 0 self.now) }
     {
-        self.first(moment, 0).is_some()
+        self.task_due(moment, 0).is_some()
     }
 
-    /// The first task that is due at a moment, where one can be given.
-    fn first(&self, moment: u64, wall: u64) -> Option<Task>
+    /// The first task that is due at a moment and a wall time, where one can be given: that of the request that `next` would give.
+    pub fn task_due(&self, moment: u64, wall: u64) -> Option<Task>
         ensures { result ≡ task_given moment wall self.now }
     {
         if !self.up {
@@ -210,7 +210,7 @@ impl Master {
         ensures request { result ≡ request_given moment wall self.old }
         ensures after { self.new ≡ master_after_next moment wall self.old }
     {
-        let task = self.first(moment, wall)?;
+        let task = self.task_due(moment, wall)?;
         Some(self.ask(task, moment))
     }
 
@@ -285,6 +285,13 @@ impl Master {
         ensures { result ≡ command_answer self.now.exchange response.now }
     {
         self.exchange.answer(response)
+    }
+
+    /// The task whose request awaits its answer, if one does.
+    pub fn task_awaited(&self) -> Option<Task>
+        ensures { result ≡ task_awaited self.now.exchange }
+    {
+        self.exchange.task()
     }
 
     /// The operation that awaits its answer, where the request is of an order.

@@ -160,7 +160,9 @@ fn serve_visit<
     }
     begin(desk, card, client, address);
     let (passes, met) = serve_stream(house, client, passes, &visit.stream);
-    let cause = told_as(card.leaves(desk.rt), house.shared.stopping(), met);
+    // What became of it by the steps of others is told before.
+    desk.board.sequence.settle(desk.rt);
+    let cause = cause_of(desk, card, house.shared.stopping(), met);
     tell_dropped(desk, card, client, &house.shared.figures(desk.rt), ANY_TIME);
     end(desk, card, client, address, cause);
     passes
@@ -206,13 +208,20 @@ fn end<R: Wait, C: Clock>(
     }
 }
 
-/// Why a connection ended, by what its workers met: where its client was made to leave, or the server is to end.
-fn told_as(leaves: bool, stopping: bool, met: Cause) -> Cause {
+/// Why a connection ended, by what its workers met, and by what became of its client: it was made to leave, a tick closed it, or
+/// the server is to end.
+fn cause_of<R: Wait, C: Clock>(
+    desk: &Desk<'_, R, C>,
+    card: &ClientCard,
+    stopping: bool,
+    met: Cause,
+) -> Cause {
     match met {
         _ if stopping => Cause::GatewayEnds,
-        // While the server goes on, the core lets go of a client by itself at a tick alone.
-        Cause::GatewayEnds => Cause::Closed(Why::Timer),
-        Cause::EndOfInput | Cause::NotRead(_) | Cause::NotWritten(_) if leaves => Cause::GaveWay,
+        Cause::GatewayEnds if card.has_expired(desk.rt) => Cause::Closed(Why::Timer),
+        Cause::EndOfInput | Cause::NotRead(_) | Cause::NotWritten(_) if card.leaves(desk.rt) => {
+            Cause::GaveWay
+        }
         other => other,
     }
 }

@@ -2,8 +2,6 @@ pub mod Intents
 pub mod Selections
 pub mod Orders
 pub mod Controls
-pub mod Counts
 pub mod Example
 pub mod Moves
 pub mod Held
-pub mod Effects

@@ -1,6 +1,6 @@
 -- Orders on their way to one outstation: those that wait, and the one that is under way.
 use Rattle.std.specs.Prelude.{ℕ, ◌≤◌, ◌<◌, Bool, false, not, ◌&&◌, ◌||◌, ◌==◌, nat_lt, is_some, List, [], ◌∷◌, ◌++◌, drop, length, map, slice_get, Option, Some, None, option_map, if◌then◌else◌}
-use Rattle.std.specs.List.{filter, list_any}
+use Rattle.std.specs.List.{filter}
 use Rattle.std.specs.Option.{option_to_list}
 use Rattle.gw_model.specs.First.{when}
 use Rattle.gw_model.specs.declared.control.Order.{Order}
@@ -92,19 +92,11 @@ abbrev pub outgoing_after_end : ℕ → Outgoing → Outgoing
 outgoing_after_end client o =
     record { waiting = filter (is_of_others client) o.waiting; under_way = option_map (left_by client) o.under_way }
 
--- ---- which there are
+-- ---- numbers
 
 -- it has this number
 abbrev pub is_numbered : ℕ → Accepted → Bool
 is_numbered number x = x.order.number == number
-
-abbrev pub is_under_way : ℕ → Option UnderWay → Bool
-is_under_way number None = false
-is_under_way number (Some u) = is_numbered number u.accepted
-
--- an order waits, or is under way
-abbrev pub has_number : ℕ → Outgoing → Bool
-has_number number o = is_under_way number o.under_way || list_any (is_numbered number) o.waiting
 
 -- ---- what their numbers keep
 

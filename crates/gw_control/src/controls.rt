@@ -402,6 +402,13 @@ impl Controls {
         }
     }
 
+    /// The order that `take_order` would give.
+    pub fn next_order(&self, outstation: u8) -> Option<Order>
+        ensures { result ≡ order_at (slice_get self.now.outgoing outstation) }
+    {
+        self.outgoing.get(usize::from(outstation))?.next()
+    }
+
     /// Gives the oldest order that waits for an outstation, where none is under way to it; then it is.
     pub fn take_order(&mut self, outstation: u8) -> Option<Order>
         ensures order { result ≡ order_at (slice_get self.old.outgoing outstation) }

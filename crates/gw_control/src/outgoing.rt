@@ -1,8 +1,8 @@
 //! Orders on their way to one outstation.
 ghost use Rattle.std.specs.Prelude.{◌≡◌, ◌≤◌, false, is_some, length, [], IfOk};
-ghost use Rattle.std.specs.List.{filter, list_any};
+ghost use Rattle.std.specs.List.{filter};
 ghost use Rattle.circular_buffer.specs.Buffer.{buffer};
-ghost use Rattle.gw_control.specs.Orders.{has_number, is_full, is_numbered, is_of_others, nothing_outgoing, order_given, outcome_at, outcome_lost, outgoing_after_end, outgoing_after_ended, outgoing_after_lost, outgoing_after_taking, outgoing_with};
+ghost use Rattle.gw_control.specs.Orders.{is_full, is_of_others, nothing_outgoing, order_given, outcome_at, outcome_lost, outgoing_after_end, outgoing_after_ended, outgoing_after_lost, outgoing_after_taking, outgoing_with};
 
 use crate::accepted::{Accepted, UnderWay};
 use crate::answer::Outcome;
@@ -92,16 +92,6 @@ impl Outgoing {
         self.under_way
     }
 
-    /// Whether an order is under way, or waits.
-    pub fn has(&self, number: u64) -> bool
-        ensures { result ≡ has_number number self.now }
-    {
-        match self.under_way {
-            Some(under_way) if under_way.accepted.order.number == number => true,
-            _ => is_waiting(&self.waiting, number),
-        }
-    }
-
     /// Whether no further order may wait.
     pub fn is_full(&self) -> bool
         ensures { result ≡ is_full self.now }
@@ -122,6 +112,16 @@ impl Outgoing {
         ensures { result ≡ is_some (order_given self.now) }
     {
         self.under_way.is_none() && !self.waiting.is_empty()
+    }
+
+    /// The order that `take` would give.
+    pub fn next(&self) -> Option<Order>
+        ensures { result ≡ order_given self.now }
+    {
+        match self.under_way {
+            Some(_) => None,
+            None => Some(self.waiting.front()?.order),
+        }
     }
 
     /// Gives the oldest order that waits, where none is under way; then it is.
@@ -177,15 +177,6 @@ impl Outgoing {
             }
         }
     }
-}
-
-/// Whether an order is among these.
-fn is_waiting(waiting: &HeapCircularBuffer<Accepted>, number: u64) -> bool
-    ensures { result ≡ list_any (is_numbered number) waiting.now.items }
-{
-    waiting
-        .iter()
-        .any(|accepted| accepted.order.number == number)
 }
 
 /// Those of other clients stay.

@@ -1,7 +1,7 @@
 //! Which writers needn't be rung for.
 
-use crate::roused::{Roused, Topic};
-use gw_steps::{Reply, StepFault};
+use crate::roused::Roused;
+use gw_steps::{Reply, StepFault, StepKind};
 
 /// The writers of clients that are awake: each that was rung for and hasn't been told since that nothing is due. It
 /// asks again before it sleeps, so whoever steps meanwhile needn't ring.
@@ -19,18 +19,18 @@ impl Awake {
     }
 
     /// A writer that is told of no APDU may sleep now.
-    pub fn told(&mut self, topic: Topic, reply: &Result<Reply, StepFault>) {
-        match (topic, reply) {
-            (Topic::Pump(_), Ok(Reply::Apdu(_))) => {}
-            (Topic::Pump(client), _) => self.writers = self.writers.without_client(client),
+    pub fn told(&mut self, kind: StepKind, reply: &Result<Reply, StepFault>) {
+        match (kind, reply) {
+            (StepKind::Pump(_), Ok(Reply::Apdu(_))) => {}
+            (StepKind::Pump(client), _) => self.writers = self.writers.without_client(client),
             _ => {}
         }
     }
 
-    /// Those of the workers that a step serves for whom the bell has to ring; they are awake then.
-    pub fn rouse(&mut self, served: Roused) -> Roused {
-        let asleep = served.without_clients_of(self.writers);
-        self.writers = self.writers.with_clients_of(served);
+    /// Those of the workers that may have something to do for whom the bell has to ring; they are awake then.
+    pub fn rouse(&mut self, due: Roused) -> Roused {
+        let asleep = due.without_clients_of(self.writers);
+        self.writers = self.writers.with_clients_of(due);
         asleep
     }
 }

@@ -5,6 +5,7 @@
 mod awake;
 mod figures;
 mod hold;
+mod order_counts;
 mod pace;
 mod roused;
 mod streak;
@@ -12,11 +13,13 @@ mod tally;
 
 pub use awake::Awake;
 pub use figures::Figures;
-pub use gw_control::{Answer, OrderCounts, Refusal};
+pub use gw_control::{Answer, Refusal};
 pub use gw_steps::{
-    Apdu, ApduBuf, Effects, Fate, Judged, Machine, OrderEnd, Reply, Step, StepFault, Verdict, Why,
+    Apdu, ApduBuf, ApduKind, Effects, Fate, Judged, Machine, NewsPiece, OrderEnd, Reply, Reported,
+    Step, StepFault, StepKind, Task, UnknownAsdu, Verdict, Why,
 };
 pub use hold::Load;
+pub use order_counts::OrderCounts;
 pub use pace::Pace;
-pub use roused::{CLIENTS, OUTSTATIONS, Roused, Topic};
+pub use roused::{CLIENTS, OUTSTATIONS, Roused};
 pub use tally::{Tally, order_accepted};

@@ -3,88 +3,11 @@
 use crate::hold::{Hold, Load};
 use crate::roused::{CLIENTS, OUTSTATIONS};
 use crate::streak::{Asked, RequestStreak};
-use gw_steps::{Machine, Reply, Step, StepFault, Verdict};
+use gw_steps::{Effects, Machine, Reply, Reported, StepFault, StepKind, Verdict};
 
 /// The milliseconds in which a client counts as one that reads, behind the last APDU that it was given, and behind its last
 /// acknowledgement of one.
 const READS_MS: u64 = 2000;
-
-/// A fragment of an outstation that is to be taken.
-#[derive(Clone, Copy)]
-struct Fragment {
-    outstation: u8,
-    moment: u64,
-    /// How many observations it has.
-    size: u64,
-    /// Its IIN1.
-    indications: u8,
-    is_answer: bool,
-    has_events: bool,
-    /// How many news there were before it.
-    news: u64,
-}
-
-/// What a step that is to be made may tell, at its moment.
-#[derive(Clone, Copy)]
-enum Foreseen {
-    /// Nothing.
-    Nothing,
-    /// A client acknowledges some of so many I formats.
-    Receipt {
-        client: u8,
-        moment: u64,
-        unacknowledged: usize,
-    },
-    /// An outstation is asked.
-    Request {
-        outstation: u8,
-        moment: u64,
-    },
-    /// An outstation sends a fragment.
-    Fragment(Fragment),
-    /// An outstation comes up, or is lost.
-    Turn {
-        outstation: u8,
-    },
-}
-
-impl Foreseen {
-    /// What a step may tell on a machine.
-    fn by<M: Machine>(step: &Step, machine: &M) -> Foreseen {
-        match step {
-            Step::Frame { client, moment, .. } => Foreseen::Receipt {
-                client: *client,
-                moment: *moment,
-                unacknowledged: machine.unacknowledged(*client),
-            },
-            Step::Poll {
-                outstation,
-                moment,
-                ..
-            } => Foreseen::Request {
-                outstation: *outstation,
-                moment: *moment,
-            },
-            Step::Fragment { response, moment } => Foreseen::Fragment(Fragment {
-                outstation: response.outstation(),
-                moment: *moment,
-                size: response.reports().len() as u64,
-                indications: response.internal_indications()[0],
-                is_answer: !response.is_unsolicited(),
-                has_events: response.reports().iter().any(|report| report.event),
-                news: machine.news(),
-            }),
-            Step::OutstationUp { outstation, .. } | Step::OutstationDown { outstation, .. } =>
-                Foreseen::Turn {
-                    outstation: *outstation,
-                },
-            Step::ClientUp { .. }
-            | Step::ClientDown { .. }
-            | Step::Pump { .. }
-            | Step::Tick { .. } => Foreseen::Nothing,
-        }
-    }
-}
 
 /// How an outstation is served.
 #[derive(Clone, Copy)]
@@ -102,19 +25,18 @@ impl Service {
         }
     }
 
-    /// A fragment was accepted, behind which there are so many news; where it ends an answer, a further request is due, or
+    /// A fragment was accepted at a moment, which brought so many news; where it ends an answer, a further request is due, or
     /// none.
-    fn accept(&mut self, fragment: Fragment, news: u64, ends: bool, is_due: bool) {
-        self.hold.take(fragment.size);
-        if !fragment.is_answer {
+    fn accept(&mut self, reported: Reported, moment: u64, news: u64, ends: bool, is_due: bool) {
+        self.hold.take(reported.observations as u64);
+        if reported.is_unsolicited {
             return;
         }
-        if fragment.has_events || news > fragment.news {
+        if reported.events > 0 || news > 0 {
             self.streak.end();
         }
         if ends {
-            self.streak
-                .answer(fragment.moment, fragment.indications, is_due);
+            self.streak.answer(moment, reported.indications[0], is_due);
         }
     }
 }
@@ -124,7 +46,6 @@ impl Service {
 pub struct Pace {
     read: [Option<u64>; CLIENTS as usize],
     services: [Service; OUTSTATIONS as usize],
-    foreseen: Foreseen,
 }
 
 impl Pace {
@@ -133,7 +54,6 @@ impl Pace {
         Pace {
             read: [None; CLIENTS as usize],
             services: [Service::new(); OUTSTATIONS as usize],
-            foreseen: Foreseen::Nothing,
         }
     }
 
@@ -144,68 +64,63 @@ impl Pace {
         }
     }
 
-    /// A step is to be made on a machine.
-    pub fn foresee<M: Machine>(&mut self, step: &Step, machine: &M) {
-        self.foreseen = Foreseen::by(step, machine);
-    }
-
-    /// The step was made, which left the machine so.
-    pub fn settle<M: Machine>(&mut self, reply: &Result<Reply, StepFault>, machine: &M) {
-        match self.foreseen {
-            Foreseen::Nothing => {}
-            Foreseen::Receipt {
-                client,
-                moment,
-                unacknowledged,
-            } => self.settle_receipt(client, moment, unacknowledged, reply, machine),
-            Foreseen::Request { outstation, moment } => self.settle_request(
-                outstation, moment, reply,
-            ),
-            Foreseen::Fragment(fragment) => self.settle_fragment(fragment, reply, machine),
-            Foreseen::Turn { outstation } => self.settle_turn(outstation),
-        }
-        self.foreseen = Foreseen::Nothing;
-    }
-
-    /// An APDU of a client was taken, before which so many I formats weren't acknowledged.
-    fn settle_receipt<M: Machine>(
+    /// A step of a moment was answered so, and did this besides.
+    pub fn settle(
         &mut self,
-        client: u8,
+        kind: StepKind,
         moment: u64,
-        unacknowledged: usize,
         reply: &Result<Reply, StepFault>,
-        machine: &M,
+        effects: &Effects,
     ) {
-        if matches!(reply, Ok(Reply::Taken)) && machine.unacknowledged(client) < unacknowledged {
-            self.note(client, moment);
+        match kind {
+            StepKind::Frame(client) => {
+                if matches!(reply, Ok(Reply::Taken)) && effects.acknowledged() > 0 {
+                    self.note(client, moment);
+                }
+            }
+            StepKind::Poll(outstation) => self.settle_request(outstation, moment, reply, effects),
+            StepKind::Fragment(outstation) => {
+                self.settle_fragment(outstation, moment, reply, effects);
+            }
+            StepKind::OutstationUp(outstation) | StepKind::OutstationDown(outstation) => {
+                self.settle_turn(outstation);
+            }
+            StepKind::ClientUp(_) | StepKind::ClientDown(_) | StepKind::Pump(_) | StepKind::Tick =>
+                {}
         }
     }
 
     /// A request for an outstation was given, or none.
-    fn settle_request(&mut self, outstation: u8, moment: u64, reply: &Result<Reply, StepFault>) {
+    fn settle_request(
+        &mut self,
+        outstation: u8,
+        moment: u64,
+        reply: &Result<Reply, StepFault>,
+        effects: &Effects,
+    ) {
         let Some(service) = self.services.get_mut(usize::from(outstation)) else {
             return;
         };
-        if let Ok(Reply::Request(request)) = reply {
-            let asked = Asked::by(request.as_slice(), request.bond.is_some());
-            service.streak.ask(asked, moment);
+        if let (Ok(Reply::Request(_)), Some(task)) = (reply, effects.task()) {
+            service.streak.ask(Asked::by(task), moment);
         }
     }
 
     /// A fragment was taken, or wasn't.
-    fn settle_fragment<M: Machine>(
+    fn settle_fragment(
         &mut self,
-        fragment: Fragment,
+        outstation: u8,
+        moment: u64,
         reply: &Result<Reply, StepFault>,
-        machine: &M,
+        effects: &Effects,
     ) {
-        let Some(service) = self.services.get_mut(usize::from(fragment.outstation)) else {
+        let Some(service) = self.services.get_mut(usize::from(outstation)) else {
             return;
         };
-        match reply {
-            Ok(Reply::Verdict(Verdict::Accepted { end, .. })) => {
-                let is_due = machine.is_poll_due(fragment.outstation);
-                service.accept(fragment, machine.news(), *end, is_due);
+        match (reply, effects.reported()) {
+            (Ok(Reply::Verdict(Verdict::Accepted { end, .. })), Some(reported)) => {
+                let is_due = !effects.due_outstations().is_empty();
+                service.accept(reported, moment, effects.news(), *end, is_due);
             }
             _ => service.hold.let_go(),
         }

@@ -1,5 +1,7 @@
 //! Requests that follow each other.
 
+use gw_steps::Task;
+
 /// How many requests go to an outstation in a streak before it is let rest.
 const MOST: u32 = 10;
 
@@ -15,15 +17,6 @@ const EVENTS_OR_RESTART: u8 = 0x8E;
 /// IIN1.4, in IIN1: the outstation asks for the time. That makes a request due where the clock is set from here.
 const NEED_TIME: u8 = 0x10;
 
-/// WRITE (IEEE Std 1815, 4.4.3).
-const WRITE: u8 = 2;
-
-/// RECORD_CURRENT_TIME.
-const RECORD_CURRENT_TIME: u8 = 24;
-
-/// The group of times.
-const TIMES: u8 = 50;
-
 /// What is asked of an outstation by a request.
 #[derive(Clone, Copy)]
 pub enum Asked {
@@ -36,15 +29,13 @@ pub enum Asked {
 }
 
 impl Asked {
-    /// What a request with these octets asks for, which is of an order or of none.
-    pub fn by(octets: &[u8], is_order: bool) -> Asked {
-        if is_order {
-            return Asked::Order;
-        }
-        match octets.get(1) {
-            Some(&RECORD_CURRENT_TIME) => Asked::Time,
-            Some(&WRITE) if octets.get(2) == Some(&TIMES) => Asked::Time,
-            _ => Asked::Other,
+    /// What the request of a task asks for.
+    pub fn by(task: Task) -> Asked {
+        match task {
+            Task::Command(..) => Asked::Order,
+            Task::WriteTime(_) | Task::RecordTime(_) => Asked::Time,
+            Task::ClearRestart | Task::Disable | Task::Integrity | Task::Enable | Task::EventPoll =>
+                Asked::Other,
         }
     }
 

@@ -2,9 +2,10 @@
 ghost use Rattle.std.specs.Prelude.{◌≡◌};
 ghost use Rattle.gw_effects.specs.Accepting.{number_in, order_accepted};
 
+use crate::order_counts::OrderCounts;
 use crate::roused::{CLIENTS, OUTSTATIONS};
-use gw_control::{Answer, Fate as WithoutAnswer, OrderCounts};
-use gw_steps::{Effects, Fate, Machine, OrderEnd, Outgoing};
+use gw_control::Answer;
+use gw_steps::{Effects, Machine, OrderEnd, Outgoing};
 
 /// For each outstation how many orders there were, and what became of them; for each client how many observations were
 /// dropped in those data transfers that have ended, which a machine forgets.
@@ -62,15 +63,8 @@ impl Tally {
 
     /// An order ended.
     fn end(&mut self, end: &OrderEnd) {
-        let Some(counts) = self.orders.get_mut(end.outstation) else {
-            return;
-        };
-        match end.fate {
-            Fate::Done => counts.answer(true),
-            Fate::Refused(..) | Fate::Otherwise(_) => counts.answer(false),
-            Fate::Unanswered(_) => counts.settle(WithoutAnswer::Unanswered),
-            Fate::Lost => counts.settle(WithoutAnswer::Lost),
-            Fate::LetGo => counts.settle(WithoutAnswer::LetGo),
+        if let Some(counts) = self.orders.get_mut(end.outstation) {
+            counts.end(end.fate);
         }
     }
 }

@@ -11,7 +11,7 @@ use Rattle.gw_steps.specs.declared.step.Step.TheVariants as steps
 use Rattle.gw_steps.specs.declared.step.Reply.{Reply}
 use Rattle.gw_steps.specs.declared.step.StepFault.TheVariants.{NoClient}
 use Rattle.gw_steps.specs.Controls.{order_due}
-use Rattle.gw_steps.specs.Effects.{Effects, answered as answered_ends, effects_of, effects_of_apdu, fate_by, no_effects}
+use Rattle.gw_steps.specs.Effects.{Effects, answered as answered_ends, effects_of, effects_of_apdu, fate_by, no_effects, reported}
 use Rattle.gw_steps.specs.Sound.{IsSoundState}
 use Rattle.gw_steps.specs.State.{State, client_limit}
 use Rattle.gw_steps.specs.Steps.{after, can_be_counted, controls_after_frame, fault_of, is_accepting, latest, needs, order_ended, outcome, parts_after_fragment, parts_after_poll, reply_to}
@@ -62,7 +62,7 @@ counted p setup s (steps.OutstationDown o m) r sound all e = omega (arith, outst
 counted p setup s (steps.Fragment f m) r sound all e = by (is_accepting s f)
   where
     told : Effects
-    told = record no_effects { ended = answered_ends s f }
+    told = record no_effects { reported = Some (reported s f); ended = answered_ends s f }
 
     by : (taken : Bool)
         → all_so p 0 s.controls.outgoing + 0

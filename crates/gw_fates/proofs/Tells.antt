@@ -26,7 +26,7 @@ use Rattle.gw_steps.specs.declared.step.Step.TheVariants as steps
 use Rattle.gw_steps.specs.declared.step.Reply.{Reply}
 use Rattle.gw_steps.specs.declared.step.StepFault.{StepFault}
 use Rattle.gw_steps.specs.Controls.{controls_with_ended, ended_lost, outcome_ended, outcomes_ended, outcomes_lost}
-use Rattle.gw_steps.specs.Effects.{Effects, answered, effects_of, effects_of_apdu, effects_of_event, effects_of_tick, effects_with, end_at, fate_by, late, let_go, lost, lost_waiting, no_effects, only}
+use Rattle.gw_steps.specs.Effects.{Effects, answered, effects_of, effects_of_apdu, effects_of_event, effects_of_tick, effects_with, end_at, fate_by, late, let_go, lost, lost_waiting, no_effects, only, reported}
 use Rattle.gw_steps.specs.Sound.{IsSoundState, LeavesSound}
 use Rattle.gw_steps.specs.State.{State}
 use Rattle.gw_steps.specs.Steps.{controls_closed, ended_late, is_accepting, latest, order_ended, outcomes_of, outcomes_of_fragment, outcomes_of_loss, outcomes_of_tick}
@@ -170,7 +170,7 @@ step_tells setup s (steps.OutstationDown o m) sound = loss_tells setup s o sound
 step_tells setup s (steps.Fragment f m) sound = by (is_accepting s f)
   where
     told : Effects
-    told = record no_effects { ended = answered s f }
+    told = record no_effects { reported = Some (reported s f); ended = answered s f }
 
     by : (taken : Bool)
         → told_outcomes (cond taken (outcomes_of_fragment s f) [])

@@ -7,3 +7,4 @@ pub mod Losing
 pub mod Sessions
 pub mod Made
 pub mod Due
+pub mod Told

@@ -1,5 +1,5 @@
 -- What a hub keeps, and what its calls do.
-use Rattle.std.specs.Prelude.{◌≡◌, ℕ, ◌+◌, ◌*◌, ◌^◌, ◌<◌, ◌≤◌, Bool, true, false, ◌==◌, is_some, List, [], length, slice_get, Option, Some, None, Result, Ok, Err, IfSome, if◌then◌else◌}
+use Rattle.std.specs.Prelude.{◌≡◌, ℕ, ◌+◌, ◌-◌, ◌*◌, ◌^◌, ◌<◌, ◌≤◌, Bool, true, false, ◌==◌, is_some, List, [], length, slice_get, Option, Some, None, Result, Ok, Err, IfSome, if◌then◌else◌}
 use Rattle.std.specs.List.{AllByRecursion}
 use Rattle.gw_model.specs.declared.point.Report.{Report}
 use Rattle.gw_map.specs.Settings.{Setup, station_clocks}
@@ -26,6 +26,7 @@ use Rattle.gw_steps.specs.declared.step.Step.{Step}
 use Rattle.gw_steps.specs.declared.step.Reply.{Reply}
 use Rattle.gw_steps.specs.declared.step.StepFault.{StepFault}
 use Rattle.gw_steps.specs.Controls.{controls_after_taken, is_control_up, order_due, said_by, said_of_outcome}
+use Rattle.gw_steps.specs.Effects.{Effects, clients_due, outstations_due, waiting_for}
 use Rattle.gw_steps.specs.Sound.{IsSoundState}
 use Rattle.gw_hub.specs.declared.orders.Sender.{Sender}
 use Rattle.gw_hub.specs.declared.tally.Counts.{Counts}
@@ -136,6 +137,17 @@ CanTell clients x = IfSome (slice_get clients x.client) (CanBeTold x.command (sa
 pub record HoldsPlaces (clients : List Client) (controls : Controls) : Type 0 where
   pub held : (c : ℕ) → IfSome (slice_get clients c) (λ k. k.held ≡ 2 * orders_of c controls)
   pub places : AllByRecursion (λ k. places_taken k ≤ places) clients
+
+-- ---- what a step did
+
+-- this, and what this state tells of a step before which there were so many news, and so many I formats waited
+abbrev pub told_behind : State → Step → ℕ → ℕ → Effects → Effects
+told_behind s step news waiting done = record done {
+  news = s.counts.news - news;
+  acknowledged = waiting - waiting_for s step;
+  due_outstations = outstations_due s step done;
+  due_clients = clients_due s step done;
+}
 
 -- why a step is not made, if there is a reason
 abbrev pub unless : Option StepFault → Result (Unit {0}) StepFault

@@ -3,10 +3,11 @@
 use crate::cause::Cause;
 use crate::minute::LastMinute;
 use crate::throttle::Throttle;
-use crate::unknown_asdu::{UnknownAsdu, UnknownAsdus};
+use crate::unknown_asdu::UnknownAsdus;
 use gw_control::Refusal;
 use gw_station::Why;
 use gw_status::{ClientState, Closes, Refusals};
+use gw_steps::UnknownAsdu;
 use std::net::SocketAddr;
 
 /// The milliseconds between two tellings of dropped observations, and of ASDUs of unknown types.

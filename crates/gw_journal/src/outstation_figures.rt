@@ -9,6 +9,7 @@ use crate::stray::{StrayFrame, StrayFrames};
 use crate::throttle::Throttle;
 use crate::unreadable::Unreadable;
 use gw_status::{OutstationState, tell_of_trouble};
+use gw_steps::{Reported, Task};
 
 /// The milliseconds between two tellings of unanswered requests, of skipped octets, and of stray frames.
 const MINUTE_MS: u64 = 60_000;
@@ -58,20 +59,14 @@ pub struct OutstationFigures {
     pub events: u64,
     /// The internal indications of its last response on this connection.
     before: u16,
-    /// The number of the step that gave the last request.
-    asked_by: u64,
-    /// What it asks for, and what the one before did.
-    request: RequestPurpose,
-    earlier_request: RequestPurpose,
     /// Whether an answer to a request for all that it has ended.
     has_told_all: bool,
     /// The number of the step of the last fragment on this connection, and of that by which a request on it ended without its
     /// answer; 0 where there is none.
     answered_by: u64,
     unanswered_by: u64,
-    /// How far the setting of the clock has come, and how far it had before the last request.
-    setting: Setting,
-    earlier_setting: Setting,
+    /// Whether it still asks for the time after it was written.
+    is_clock_not_set: bool,
     unanswered_told: Throttle,
     skipped_told: Throttle,
     passed_over_told: Throttle,
@@ -87,34 +82,6 @@ pub struct OutstationFigures {
     is_told: bool,
     /// What was noticed on connections that weren't told of.
     noticed: Noticed,
-}
-
-/// What a request asks for, as far as it matters here.
-#[derive(Clone, Copy)]
-pub struct RequestPurpose {
-    /// It writes the time.
-    pub writes_time: bool,
-    /// It asks for all that the outstation has.
-    pub asks_for_all: bool,
-}
-
-impl RequestPurpose {
-    /// Anything else.
-    const OTHER: RequestPurpose = RequestPurpose {
-        writes_time: false,
-        asks_for_all: false,
-    };
-}
-
-/// How far the setting of the outstation's clock has come.
-#[derive(Clone, Copy)]
-enum Setting {
-    /// The last request wasn't the writing of the time.
-    Idle,
-    /// The last request writes the time, and awaits its answer.
-    Written,
-    /// It was told that the clock isn't set, and the outstation asks for the time since.
-    Told,
 }
 
 /// What a response of an outstation has that it didn't have before.
@@ -199,14 +166,10 @@ impl OutstationFigures {
             indications: 0,
             events: 0,
             before: 0,
-            asked_by: 0,
-            request: RequestPurpose::OTHER,
-            earlier_request: RequestPurpose::OTHER,
             has_told_all: false,
             answered_by: 0,
             unanswered_by: 0,
-            setting: Setting::Idle,
-            earlier_setting: Setting::Idle,
+            is_clock_not_set: false,
             unanswered_told: Throttle::new(MINUTE_MS),
             skipped_told: Throttle::new(MINUTE_MS),
             passed_over_told: Throttle::new(HOUR_MS),
@@ -250,38 +213,25 @@ impl OutstationFigures {
         self.answered_by = 0;
         self.unanswered_by = 0;
         self.before = 0;
-        self.setting = Setting::Idle;
-        self.earlier_setting = Setting::Idle;
+        self.is_clock_not_set = false;
     }
 
-    /// A request is sent, which the step of this number gave, and what it asks for.
-    pub fn asked(&mut self, step: u64, request: RequestPurpose) {
+    /// A request is sent.
+    pub fn asked(&mut self) {
         self.requests = self.requests.saturating_add(1);
-        self.asked_by = step;
-        self.earlier_request = self.request;
-        self.request = request;
-        self.earlier_setting = self.setting;
-        self.setting = self.setting.once_asked(request.writes_time);
     }
 
-    /// A fragment was taken by the step of this number: its internal indications, whether it ends the answer to a
-    /// request, and how many events it reports. Gives what is new.
-    pub fn answered(
-        &mut self,
-        step: u64,
-        wall: u64,
-        indications: [u8; 2],
-        solicited_end: bool,
-        events: u64,
-    ) -> Noticed {
-        let now = u16::from_le_bytes(indications);
+    /// A fragment that said this was accepted by the step of this number; it ends the answer to a request, or doesn't. Gives
+    /// what is new.
+    pub fn answered(&mut self, step: u64, wall: u64, reported: &Reported, ends: bool) -> Noticed {
+        let now = u16::from_le_bytes(reported.indications);
         let before = self.before;
-        let clock_not_set = self.ends(step, now, solicited_end);
-        self.has_told_all = self.has_told_all || solicited_end && self.was_asked_for_all(step);
+        let clock_not_set = self.answers_time(now, ends, reported.answers);
+        self.has_told_all = self.has_told_all || ends && is_integrity_poll(reported.answers);
         self.answered_by = step;
         self.last_answer = Some(wall);
         self.indications = now;
-        self.events = self.events.saturating_add(events);
+        self.events = self.events.saturating_add(reported.events as u64);
         self.before = now;
         self.settle(wall);
         self.once_told(Noticed {
@@ -289,6 +239,18 @@ impl OutstationFigures {
             overflowed: rises(OVERFLOW, before, now),
             clock_not_set,
         })
+    }
+
+    /// What these indications mean for its clock, in a fragment that ends the answer to a task, or doesn't; whether it is to be
+    /// told that the clock isn't set: it was written, and the outstation asks for the time all the same.
+    fn answers_time(&mut self, indications: u16, ends: bool, answers: Option<Task>) -> bool {
+        if indications & NEED_TIME == 0 {
+            self.is_clock_not_set = false;
+            return false;
+        }
+        let is_news = !self.is_clock_not_set && ends && matches!(answers, Some(Task::WriteTime(_)));
+        self.is_clock_not_set = self.is_clock_not_set || is_news;
+        is_news
     }
 
     /// What is told at once of what was noticed; it waits where the connection wasn't told of.
@@ -308,15 +270,6 @@ impl OutstationFigures {
         self.settle(wall);
     }
 
-    /// Whether the request asked for all that a fragment may answer which the step of this number took.
-    fn was_asked_for_all(&self, step: u64) -> bool {
-        if step < self.asked_by {
-            self.earlier_request.asks_for_all
-        } else {
-            self.request.asks_for_all
-        }
-    }
-
     /// Whether it has answered since it connected.
     pub fn has_answered(&self) -> bool {
         self.connected_since.is_some() && self.answered_by != 0
@@ -324,7 +277,7 @@ impl OutstationFigures {
 
     /// Whether it still asks for the time after it was written, and isn't polled while it does.
     pub fn is_clock_not_set(&self) -> bool {
-        matches!(self.setting, Setting::Told)
+        self.is_clock_not_set
     }
 
     /// Whether an answer to a request for all that it has ended.
@@ -356,28 +309,6 @@ impl OutstationFigures {
         } else {
             OutstationState::AllRight
         }
-    }
-
-    /// What a fragment means for the request that it may answer; whether it is to be told that the clock isn't set.
-    /// Where the next request was told first, the fragment is of the one before.
-    fn ends(&mut self, step: u64, indications: u16, solicited_end: bool) -> bool {
-        if step < self.asked_by {
-            return self.ends_earlier(indications, solicited_end);
-        }
-        let (setting, clock_not_set) = self.setting.once_answered(indications, solicited_end);
-        self.setting = setting;
-        clock_not_set
-    }
-
-    /// What a fragment means that may answer the request before the last one, as if it had been told before the last
-    /// one was.
-    fn ends_earlier(&mut self, indications: u16, solicited_end: bool) -> bool {
-        let (earlier, clock_not_set) = self
-            .earlier_setting
-            .once_answered(indications, solicited_end);
-        self.earlier_setting = earlier;
-        self.setting = earlier.once_asked(self.request.writes_time);
-        clock_not_set
     }
 
     /// A fragment was refused. Where that may be told now, how many more were refused and not told.
@@ -468,25 +399,7 @@ impl OutstationFigures {
     }
 }
 
-impl Setting {
-    /// Once a request is sent, which writes the time or doesn't.
-    fn once_asked(self, writes_time: bool) -> Setting {
-        match self {
-            Setting::Told => Setting::Told,
-            Setting::Idle | Setting::Written if writes_time => Setting::Written,
-            Setting::Idle | Setting::Written => Setting::Idle,
-        }
-    }
-
-    /// Once a fragment with these internal indications was taken, and whether it is to be told that the clock isn't
-    /// set.
-    fn once_answered(self, indications: u16, solicited_end: bool) -> (Setting, bool) {
-        if indications & NEED_TIME == 0 {
-            return (Setting::Idle, false);
-        }
-        match self {
-            Setting::Written if solicited_end => (Setting::Told, true),
-            Setting::Idle | Setting::Written | Setting::Told => (self, false),
-        }
-    }
+/// Whether a task is a poll for all that an outstation has.
+fn is_integrity_poll(task: Option<Task>) -> bool {
+    matches!(task, Some(Task::Integrity))
 }

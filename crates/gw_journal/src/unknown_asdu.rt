@@ -1,18 +1,8 @@
 //! ASDUs of clients of types that aren't known in control direction.
 
 use crate::counted::AndMore;
+use gw_steps::UnknownAsdu;
 use std::fmt;
-
-/// An ASDU of a type that isn't known in control direction.
-#[derive(Clone, Copy)]
-pub struct UnknownAsdu {
-    /// The type identification (IEC 60870-5-101, 7.2.1).
-    pub identification: u8,
-    /// The common address.
-    pub common_address: u16,
-    /// The address of its first information object; none where its octets end before that.
-    pub address: Option<u32>,
-}
 
 /// Such ASDUs, as they are told.
 #[derive(Clone, Copy)]
@@ -25,24 +15,16 @@ pub struct UnknownAsdus {
 
 impl fmt::Display for UnknownAsdus {
     fn fmt<W: fmt::Write>(&self, f: &mut fmt::Formatter<W>) -> fmt::Result {
-        let UnknownAsdus { last, left_out } = *self;
-        let (asdu, more) = (last, AndMore(left_out));
-        write!(f, "asks: {asdu}: unknown type{more}")
-    }
-}
-
-impl fmt::Display for UnknownAsdu {
-    fn fmt<W: fmt::Write>(&self, f: &mut fmt::Formatter<W>) -> fmt::Result {
         let UnknownAsdu {
             identification,
             common_address,
             address,
-        } = *self;
-        let name = Name(identification);
-        let place = Place(address);
+        } = self.last;
+        let (name, place) = (Name(identification), Place(address));
+        let more = AndMore(self.left_out);
         write!(
             f,
-            "type {identification}{name}{place}, station {common_address}"
+            "asks: type {identification}{name}{place}, station {common_address}: unknown type{more}"
         )
     }
 }

@@ -6,3 +6,4 @@ pub mod Bits
 pub mod Closes
 pub mod Ends
 pub mod Lateness
+pub mod Dueness

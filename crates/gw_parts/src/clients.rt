@@ -1,5 +1,5 @@
 //! All clients, by their position, and the news for all of them.
-ghost use Rattle.std.specs.Prelude.{◌≡◌, ◌+◌, ◌<◌, ◌^◌, ℕ, [], ◌∷◌, map, option_map, replicate, slice_get, true, if◌then◌else◌, IfOk, IfSome, OnErr, OnOk};
+ghost use Rattle.std.specs.Prelude.{◌≡◌, ◌+◌, ◌<◌, ◌≤◌, ◌^◌, ℕ, ◌||◌, length, [], ◌∷◌, map, option_map, replicate, slice_get, true, if◌then◌else◌, IfOk, IfSome, OnErr, OnOk};
 ghost use Rattle.std.specs.List.{AllByRecursion};
 ghost use Rattle.gw_model.specs.Places.{change};
 ghost use Rattle.gw_map.specs.Settings.{Setup, station_clocks};
@@ -13,13 +13,13 @@ ghost use Rattle.gw_steps.specs.Controls.{controls_after_closes};
 ghost use Rattle.gw_steps.specs.Steps.{begun_by, bits_of, command_of, wanted_by};
 ghost use Rattle.gw_steps.specs.Queries.{dropped_at, has_offer, queued_at, unacknowledged_at};
 ghost use Rattle.gw_steps.specs.State.{client_limit};
-ghost use Rattle.gw_steps.specs.Effects.{dropped_of};
+ghost use Rattle.gw_steps.specs.Effects.{dropped_of, or_offered};
 ghost use Rattle.gw_parts.specs.Clients.{event_at, is_timed_out_at, reply_to_pump, CanCount, CanPump};
 
 use gw_control::Controls;
 use gw_map::Settings;
 use gw_model::{Memory, Observation};
-use gw_station::{Event, NewsRing, Said, Station};
+use gw_station::{Event, NewsPiece, NewsRing, Said, Station};
 use gw_steps::Reply;
 use iec_apci::Apdu;
 use iec_command::Command;
@@ -144,6 +144,16 @@ impl Clients {
         dropped
     }
 
+    /// Copies the news from a number on, as many as find room, and tells which they are.
+    pub fn copy_news(&self, number: u64, room: &mut [Observation]) -> NewsPiece
+        ensures room { length room.new ≡ length room.old }
+        ensures few { result.count ≤ length room.old }
+        ensures total { result.total ≡ self.now.news }
+        ensures within { result.first + result.count ≤ self.now.news }
+    {
+        self.news.copy_from(number, room)
+    }
+
     /// Whether the connection of a client is closed as time has passed.
     fn is_timed_out(&self, client: u8, moment: u64) -> bool
         ensures { result ≡ is_timed_out_at moment (slice_get self.now.each client) }
@@ -185,6 +195,26 @@ impl Clients {
             Some(station) => station.has_offer(moment, &self.news),
             None => false,
         }
+    }
+
+    /// Whether it is so of a client, or something may be put out to it at a moment.
+    fn is_so_or_offered(&self, so: bool, client: u8, moment: u64) -> bool
+        ensures { result ≡ (so || has_offer moment (slice_get self.now.each client)) }
+    {
+        so || self.has_offer(client, moment)
+    }
+
+    /// For each client whether it is so already, or something may be put out to it at a moment.
+    pub fn or_offered(&self, so: &[bool; CLIENTS as usize], moment: u64) -> [bool; CLIENTS as usize]
+        ensures { result ≡ or_offered moment so.now self.now.each }
+    {
+        let _ = &self.stations;
+        let mut offered = [false; CLIENTS as usize];
+        for client in 0..CLIENTS {
+            let position = usize::from(client);
+            offered[position] = self.is_so_or_offered(so[position], client, moment);
+        }
+        offered
     }
 
     /// A client comes up at a moment.

@@ -1,5 +1,5 @@
 //! All outstations, by their position.
-ghost use Rattle.std.specs.Prelude.{◌≡◌, ◌*◌, ◌<◌, ◌≤◌, [], ◌∷◌, length, map, option_and_then, option_copied, option_map, slice_get, true, IfOk, IfSome, None, Some, ℕ};
+ghost use Rattle.std.specs.Prelude.{◌≡◌, ◌*◌, ◌<◌, ◌≤◌, [], ◌∷◌, is_some, length, map, option_and_then, option_copied, option_map, slice_get, true, IfOk, IfSome, None, Some, ℕ};
 ghost use Rattle.std.specs.Borrow.{sem};
 ghost use Rattle.std.specs.Option.{option_copied_mut};
 ghost use Rattle.gw_model.specs.Places.{change};
@@ -9,7 +9,9 @@ ghost use Rattle.gw_parts.specs.Lending.{LendsMaster};
 ghost use Rattle.dnp_master.specs.Answers.{is_unanswered, operation_awaited};
 ghost use Rattle.gw_steps.specs.Controls.{ended_lost};
 ghost use Rattle.gw_steps.specs.declared.effects.Fate.TheVariants.{Unanswered};
-ghost use Rattle.gw_steps.specs.Effects.{late, where_so};
+ghost use Rattle.gw_control.specs.Controls.{order_at};
+ghost use Rattle.gw_steps.specs.Effects.{due_from, late, one_where, where_so, with_due};
+ghost use Rattle.gw_steps.specs.Queries.{is_poll_due_of};
 ghost use Rattle.gw_parts.specs.Late.{late_at, with_late};
 ghost use Rattle.gw_parts.specs.Outstations.{master_polled, reply_to_poll};
 
@@ -180,6 +182,51 @@ impl Outstations {
         for (position, master) in self.masters.iter().enumerate() {
             tell_late_at(position, master, moment, outgoing, effects);
         }
+    }
+
+    /// Tells to which outstations a request is due at a moment.
+    pub fn tell_due(&self, moment: u64, outgoing: &[Outgoing], effects: &mut Effects)
+        requires nothing { effects.old.told.due_outstations ≡ [] }
+        requires room { length self.now ≤ effects.old.room }
+        ensures { effects.new ≡ with_due (due_from moment outgoing.now 0 self.now) effects.old }
+    {
+        for (position, master) in self.masters.iter().enumerate() {
+            tell_due_at(position, master, moment, outgoing, effects);
+        }
+    }
+}
+
+/// The same of the outstation at a position.
+fn tell_due_at(
+    position: usize,
+    master: &Master,
+    moment: u64,
+    outgoing: &[Outgoing],
+    effects: &mut Effects,
+)
+    requires room { length effects.old.told.due_outstations < effects.old.room }
+    ensures { effects.new ≡ with_due (one_where
+        (is_poll_due_of moment (slice_get outgoing.now position) (Some master.now)) position) effects.old }
+{
+    if is_due_at(position, master, moment, outgoing) {
+        effects.rouse_outstation(position);
+    }
+}
+
+/// Whether a request is due to the outstation at a position: of an order, or of what is due there.
+fn is_due_at(position: usize, master: &Master, moment: u64, outgoing: &[Outgoing]) -> bool
+    ensures { result ≡ is_poll_due_of moment (slice_get outgoing.now position) (Some master.now) }
+{
+    master.is_due(moment) || (master.ready() && waits_at(position, outgoing))
+}
+
+/// Whether an order may be given to the outstation at a position.
+fn waits_at(position: usize, outgoing: &[Outgoing]) -> bool
+    ensures { result ≡ is_some (order_at (slice_get outgoing.now position)) }
+{
+    match outgoing.get(position) {
+        Some(orders) => orders.waits(),
+        None => false,
     }
 }
 

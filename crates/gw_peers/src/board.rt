@@ -117,6 +117,16 @@ impl ClientCard {
         self.hold.lock(rt).leaves()
     }
 
+    /// A tick closed the client's connection, since t1 had expired.
+    pub fn expires<R: Wait>(&self, rt: &R) {
+        self.hold.lock(rt).expire();
+    }
+
+    /// Whether a tick closed the client's connection.
+    pub fn has_expired<R: Wait>(&self, rt: &R) -> bool {
+        self.hold.lock(rt).has_expired()
+    }
+
     /// An APDU of the client was taken at a moment, which confirms a test or doesn't.
     pub fn hears<R: Wait>(&self, rt: &R, moment: u64, confirms_test: bool) {
         self.hold.lock(rt).hear(moment, confirms_test);

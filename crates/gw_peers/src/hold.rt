@@ -26,6 +26,8 @@ pub struct Hold {
     has_started: bool,
     /// It was made to leave.
     leaves: bool,
+    /// A tick closed its connection, since t1 had expired.
+    has_expired: bool,
 }
 
 impl Hold {
@@ -40,6 +42,7 @@ impl Hold {
             stream: None,
             has_started: false,
             leaves: false,
+            has_expired: false,
         }
     }
 
@@ -54,6 +57,7 @@ impl Hold {
             stream: stream.try_clone().ok(),
             has_started: false,
             leaves: false,
+            has_expired: false,
         }
     }
 
@@ -125,6 +129,16 @@ impl Hold {
     /// Whether it was made to leave.
     pub fn leaves(&self) -> bool {
         self.leaves
+    }
+
+    /// A tick closed its connection.
+    pub fn expire(&mut self) {
+        self.has_expired = true;
+    }
+
+    /// Whether a tick closed its connection.
+    pub fn has_expired(&self) -> bool {
+        self.has_expired
     }
 }
 

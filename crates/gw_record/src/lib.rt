@@ -9,9 +9,9 @@ mod tape;
 
 pub use entry::Entry;
 pub use gw_effects::{
-    Answer, Apdu, ApduBuf, Awake, CLIENTS, Effects, Fate, Figures, Judged, Load, Machine,
-    OUTSTATIONS, OrderCounts, OrderEnd, Pace, Refusal, Reply, Roused, Step, StepFault, Tally,
-    Topic, Verdict, Why, order_accepted,
+    Answer, Apdu, ApduBuf, ApduKind, Awake, CLIENTS, Effects, Fate, Figures, Judged, Load, Machine,
+    NewsPiece, OUTSTATIONS, OrderCounts, OrderEnd, Pace, Refusal, Reply, Reported, Roused, Step,
+    StepFault, StepKind, Tally, Task, UnknownAsdu, Verdict, Why, order_accepted,
 };
 pub use kept::{Kept, KeptStep};
 pub use recorder::{Dump, NoRoom, Recorder};

@@ -1,5 +1,5 @@
 //! What passes make calls on. Workers know the core behind its lock by this trait.
-ghost use Rattle.std.specs.Prelude.{◌≡◌};
+ghost use Rattle.std.specs.Prelude.{◌≡◌, ◌≤◌, length};
 ghost use Rattle.gw_steps.specs.declared.step.Step.TheVariants as steps;
 ghost use Rattle.gw_shared.specs.Pumping.{IsPumpedRun, MayGoOn};
 ghost use Rattle.gw_shared.specs.Roles.{MayMake};
@@ -10,7 +10,8 @@ use crate::pass::Pass;
 use crate::pumped::Pumped;
 use gw_bell::Bell;
 use gw_ends::Batch;
-use gw_record::{Figures, Load, Reply, Step, StepFault};
+use gw_model::Observation;
+use gw_record::{Figures, Load, NewsPiece, Reply, Step, StepFault};
 use std::sync::Wait;
 
 /// What passes make calls on, from many threads.
@@ -61,6 +62,16 @@ pub trait Calls<L: Course> {
 
     /// What is counted.
     fn figures<R: Wait>(&self, rt: &R) -> Figures;
+
+    /// Copies the news from a number on under one hold of the lock, as many as find room, and tells which they are.
+    fn copy_news<R: Wait>(&self, rt: &R, number: u64, room: &mut [Observation]) -> NewsPiece
+        ensures room { length room.new ≡ length room.old }
+        ensures few { result.count ≤ length room.old };
+
+    /// Copies what is shown of the rows from a position on, likewise; how many these are.
+    fn copy_picture<R: Wait>(&self, rt: &R, position: usize, room: &mut [Observation]) -> usize
+        ensures room { length room.new ≡ length room.old }
+        ensures few { result ≤ length room.old };
 
     /// Asks all workers to end.
     fn stop(&self);

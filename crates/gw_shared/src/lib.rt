@@ -18,8 +18,9 @@ pub use close::{CloseFault, Closed};
 pub use course::{Course, Made, open_course};
 pub use gw_bell::Bell;
 pub use gw_record::{
-    Answer, Apdu, ApduBuf, Effects, Entry, Fate, Figures, Judged, Kept, KeptStep, Load, Machine,
-    OrderCounts, OrderEnd, Recorder, Refusal, Reply, Step, StepFault, Verdict, Why, order_accepted,
+    Answer, Apdu, ApduBuf, ApduKind, Effects, Entry, Fate, Figures, Judged, Kept, KeptStep, Load,
+    Machine, NewsPiece, OrderCounts, OrderEnd, Recorder, Refusal, Reply, Reported, Step, StepFault,
+    StepKind, Task, UnknownAsdu, Verdict, Why, order_accepted,
 };
 pub use locked::Core;
 pub use one_log::Opened;

@@ -1,9 +1,9 @@
 //! What lies under the lock.
-ghost use Rattle.std.specs.Prelude.{◌≡◌, ◌↔◌, ◌+◌, ◌<◌, ◌≤◌, [], ◌∷◌, Some, true, false, replicate, IfOk, IsTrue};
+ghost use Rattle.std.specs.Prelude.{◌≡◌, ◌↔◌, ◌+◌, ◌<◌, ◌≤◌, [], ◌∷◌, length, Some, true, false, IfOk, IsTrue};
 ghost use Rattle.gw_steps.specs.declared.step.Step.TheVariants as steps;
 ghost use Rattle.gw_steps.specs.Sound.{IsSoundState};
 ghost use Rattle.gw_steps.specs.Steps.{client_up, Allowed};
-ghost use Rattle.gw_record.specs.Recording.{is_tape_full, noted, tape_on};
+ghost use Rattle.gw_record.specs.Recording.{is_tape_full, noted};
 ghost use Rattle.gw_shared.specs.Made.{IsMadeInto};
 ghost use Rattle.one_log.specs.Follows.{Follows};
 ghost use Rattle.gw_shared.specs.Reached.{entry, IsFirst, IsReached};
@@ -15,10 +15,10 @@ use crate::course::{Course, Made};
 use crate::pass::Pass;
 use crate::pumped::Pumped;
 use gw_ends::{Batch, LONGEST_APDU, apdu_in};
-use gw_model::Memory;
+use gw_model::{Memory, Observation};
 use gw_record::{
-    Awake, Figures, Load, Machine, Pace, Recorder, Reply, Roused, Step, StepFault, Tally, Topic,
-    order_accepted,
+    Awake, Figures, Load, Machine, NewsPiece, Pace, Recorder, Reply, Roused, Step, StepFault,
+    StepKind, Tally,
 };
 use one_log::Head;
 use std::alloc::Global;
@@ -126,7 +126,7 @@ impl<L: Course, M: Machine> Core<L, M> {
         self.tally.note(pass.effects(), &self.machine);
     }
 
-    /// The same call, of which the lock's taker knows what all calls keep; and whom it serves.
+    /// The same call, of which the lock's taker knows what all calls keep; and who is to be woken.
     pub(crate) fn answer(
         &mut self,
         pass: &mut Pass<L>,
@@ -136,29 +136,28 @@ impl<L: Course, M: Machine> Core<L, M> {
         ensures step { Steps L.setup self.old self.new pass.old pass.new step result.0 }
         ensures answers { Answers L.setup pass.old pass.new step result.0 }
     {
-        let topic = Topic::of(&step);
-        self.foresee(&step);
+        let (kind, moment) = (step.kind(), step.moment());
         let answer = self.step(pass, step);
-        let roused = self.rouse(pass, topic, &answer.1);
+        let roused = self.rouse(pass, kind, moment, &answer.1);
         (answer, roused)
     }
 
-    /// What a step may tell of how peers keep up is looked at before.
-    fn foresee(&mut self, step: &Step)
+    /// Those of the workers to whom the newest call of a pass may bring something for whom the bell has to ring.
+    fn rouse(
+        &mut self,
+        pass: &Pass<L>,
+        kind: StepKind,
+        moment: u64,
+        reply: &Result<Reply, StepFault>,
+    ) -> Roused
         ensures { self.new ≡ self.old }
     {
-        self.pace.foresee(step, &self.machine);
-    }
-
-    /// Those of the workers whom the newest call of a pass serves for whom the bell has to ring.
-    fn rouse(&mut self, pass: &Pass<L>, topic: Topic, reply: &Result<Reply, StepFault>) -> Roused
-        ensures { self.new ≡ self.old }
-    {
-        self.pace.settle(reply, &self.machine);
-        let ordered = order_accepted(pass.effects()).is_some();
-        self.awake.told(topic, reply);
-        self.awake
-            .rouse(Roused::by(topic, reply, ordered, &self.machine))
+        self.pace.settle(kind, moment, reply, pass.effects());
+        self.awake.told(kind, reply);
+        match reply {
+            Ok(_) => self.awake.rouse(Roused::by(pass.effects())),
+            Err(_) => Roused::nobody(),
+        }
     }
 
     /// Pumps for a client at a moment, one call after another, and puts the APDUs into a batch: until an answer is
@@ -283,6 +282,22 @@ impl<L: Course, M: Machine> Core<L, M> {
     /// What is counted.
     pub fn figures(&self) -> Figures {
         Figures::of(self.made, &self.machine, &self.tally)
+    }
+
+    /// Copies the news from a number on, as many as find room, and tells which they are.
+    pub fn copy_news(&self, number: u64, room: &mut [Observation]) -> NewsPiece
+        ensures room { length room.new ≡ length room.old }
+        ensures few { result.count ≤ length room.old }
+    {
+        self.machine.copy_news(number, room)
+    }
+
+    /// Copies what is shown of the rows from a position on, as many as find room; how many these are.
+    pub fn copy_picture(&self, position: usize, room: &mut [Observation]) -> usize
+        ensures room { length room.new ≡ length room.old }
+        ensures few { result ≤ length room.old }
+    {
+        self.machine.copy_picture(position, room)
     }
 
     /// How many calls were made, for whoever has all passes' shares.

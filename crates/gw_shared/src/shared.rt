@@ -12,8 +12,10 @@ use crate::pass::Pass;
 use crate::pumped::Pumped;
 use gw_bell::Bell;
 use gw_ends::Batch;
-use gw_model::Memory;
-use gw_record::{Effects, Figures, Load, Machine, Recorder, Reply, Roused, Step, StepFault};
+use gw_model::{Memory, Observation};
+use gw_record::{
+    Effects, Figures, Load, Machine, NewsPiece, Recorder, Reply, Roused, Step, StepFault,
+};
 use one_log::{Head, Opened};
 use std::alloc::Global;
 use std::marker::Model;
@@ -218,6 +220,14 @@ impl<L: Course, M: Machine> Calls<L> for Shared<L, M> {
 
     fn figures<R: Wait>(&self, rt: &R) -> Figures {
         self.core.lock(rt).figures()
+    }
+
+    fn copy_news<R: Wait>(&self, rt: &R, number: u64, room: &mut [Observation]) -> NewsPiece {
+        self.core.lock(rt).copy_news(number, room)
+    }
+
+    fn copy_picture<R: Wait>(&self, rt: &R, position: usize, room: &mut [Observation]) -> usize {
+        self.core.lock(rt).copy_picture(position, room)
     }
 
     fn stop(&self) {

@@ -8,6 +8,7 @@ mod event;
 pub mod examples;
 pub mod laws;
 mod news;
+mod news_piece;
 mod queue;
 mod rest;
 mod ring;
@@ -17,6 +18,7 @@ mod station;
 
 pub use client::Stage;
 pub use event::{Event, Said, Why};
+pub use news_piece::NewsPiece;
 pub use ring::NewsRing;
 pub use sending::Sending;
 pub use station::Station;

@@ -20,7 +20,7 @@ use Rattle.gw_control.specs.declared.answer.Answer.{Answer}
 use Rattle.gw_control.specs.declared.answer.Answer.TheVariants as answers
 use Rattle.gw_control.specs.declared.answer.Outcome.{Outcome}
 use Rattle.gw_control.specs.Intents.{control_for}
-use Rattle.gw_control.specs.Orders.{Outgoing, has_number}
+use Rattle.gw_control.specs.Orders.{Outgoing}
 use Rattle.gw_control.specs.Selections.{asked}
 use Rattle.gw_control.specs.Controls.{Controls, answer_of, controls_after_command, controls_after_end, controls_after_ended, controls_after_lost, order_at, outcome_ended_at, outcome_lost_at}
 use Rattle.gw_station.specs.declared.event.Event.{Event}
@@ -87,16 +87,6 @@ order_for (Some m) outgoing = if is_ready m then order_at outgoing else None
 
 abbrev pub order_due : State → ℕ → Option Order
 order_due s o = order_for (slice_get s.outstations o) (slice_get s.controls.outgoing o)
-
--- ---- orders that are on their way
-
-abbrev pub has_order : ℕ → Option Outgoing → Bool
-has_order number None = false
-has_order number (Some o) = has_number number o
-
--- an order waits for its outstation, or is under way to it
-abbrev pub is_on_its_way : State → ℕ → ℕ → Bool
-is_on_its_way s outstation number = has_order number (slice_get s.controls.outgoing outstation)
 
 -- ---- orders that end
 

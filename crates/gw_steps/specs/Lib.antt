@@ -1,8 +1,9 @@
 pub mod State
 pub mod Controls
 pub mod Steps
-pub mod Effects
 pub mod Queries
+pub mod Kinds
+pub mod Effects
 pub mod Runs
 pub mod Sound
 pub mod Carried

@@ -1,16 +1,17 @@
 //! What a step does besides what it replies.
-ghost use Rattle.std.specs.Prelude.{◌≡◌, ◌+◌, ◌*◌, ◌≤◌, ◌<◌, ◌++◌, [], ◌∷◌, length, map, slice_get, IfOk, Some};
+ghost use Rattle.std.specs.Prelude.{◌≡◌, ◌+◌, ◌*◌, ◌≤◌, ◌<◌, ◌++◌, [], ◌∷◌, length, map, slice_get, slice_index, IfOk, Some};
 ghost use Rattle.std.specs.List.{filter};
 ghost use Rattle.std.specs.Option.{option_to_list};
 ghost use Rattle.gw_model.specs.Places.{change};
 ghost use Rattle.gw_steps.specs.declared.effects.Fate.TheVariants.{LetGo, Lost};
-ghost use Rattle.gw_steps.specs.Effects.{end_at, end_of, fate_taken, is_of_leaving, is_so, let_go, lost_of, no_effects, only, order_end, with_ends, Telling};
+ghost use Rattle.gw_steps.specs.Effects.{end_at, end_of, event_count, fate_taken, is_of_leaving, is_so, let_go, lost_of, no_effects, only, order_end, reported_by, with_due, with_ends, Telling};
 
+use crate::apdu_kind::ApduKind;
 use circular_buffer::HeapCircularBuffer;
-use dnp_app::Operation;
-use dnp_master::{CommandAnswer, Taken};
+use dnp_app::{Operation, Response};
+use dnp_master::{CommandAnswer, Taken, Task};
 use gw_control::{Accepted, Answer, Outgoing, Refusal, UnderWay};
-use gw_model::{Ended, Memory};
+use gw_model::{Ended, Memory, Report};
 use iec_command::Command;
 use std::alloc::Global;
 use std::marker::Model;
@@ -62,13 +63,35 @@ pub struct Judged {
     pub refusal: Option<Refusal>,
 }
 
+/// What a fragment said that was accepted, but for what its points are.
+#[derive(Clone, Copy)]
+pub struct Reported {
+    /// The task whose request it answers; none of an unsolicited response.
+    pub answers: Option<Task>,
+    /// IIN1 and IIN2 (IEEE Std 1815, 4.2.2.6).
+    pub indications: [u8; 2],
+    /// Whether it was an unsolicited response.
+    pub is_unsolicited: bool,
+    /// How many observations it had.
+    pub observations: usize,
+    /// How many of them were events.
+    pub events: usize,
+}
+
 /// What the newest step did besides what it replied. There is room for all that a step may do, so it takes no memory.
 #[derive(Drop)]
 pub struct Effects {
+    apdu: Option<ApduKind>,
     command: Option<Judged>,
+    task: Option<Task>,
+    reported: Option<Reported>,
     ended: HeapCircularBuffer<OrderEnd>,
     unanswered: HeapCircularBuffer<usize>,
     dropped: [u64; CLIENTS],
+    news: u64,
+    acknowledged: usize,
+    due_outstations: HeapCircularBuffer<usize>,
+    due_clients: [bool; CLIENTS],
 }
 
 impl Model for Effects {
@@ -78,11 +101,24 @@ impl Model for Effects {
     ghost Value = { Telling };
 
     ghost view = { λ e. record {
-      told = record { command = e.command; ended = e.ended.items; unanswered = e.unanswered.items; dropped = e.dropped };
+      told = record {
+        apdu = e.apdu;
+        command = e.command;
+        task = e.task;
+        reported = e.reported;
+        ended = e.ended.items;
+        unanswered = e.unanswered.items;
+        dropped = e.dropped;
+        news = e.news;
+        acknowledged = e.acknowledged;
+        due_outstations = e.due_outstations.items;
+        due_clients = e.due_clients;
+      };
       room = e.unanswered.capacity;
     } };
 
-    ghost invariant = { λ e. e.ended.capacity ≡ 17 * e.unanswered.capacity };
+    ghost invariant = { λ e. (e.ended.capacity ≡ 17 * e.unanswered.capacity)
+        × (e.due_outstations.capacity ≡ e.unanswered.capacity) };
 }
 
 impl Effects {
@@ -92,10 +128,17 @@ impl Effects {
     {
         let outstations = usize::from(outstations);
         Ok(Effects {
+            apdu: None,
             command: None,
+            task: None,
+            reported: None,
             ended: HeapCircularBuffer::with_capacity(alloc, ORDERS * outstations)?,
             unanswered: HeapCircularBuffer::with_capacity(alloc, outstations)?,
             dropped: [0; CLIENTS],
+            news: 0,
+            acknowledged: 0,
+            due_outstations: HeapCircularBuffer::with_capacity(alloc, outstations)?,
+            due_clients: [false; CLIENTS],
         })
     }
 
@@ -103,10 +146,67 @@ impl Effects {
     pub fn clear(&mut self)
         ensures { self.new ≡ record self.old { told = no_effects } }
     {
+        self.apdu = None;
         self.command = None;
+        self.task = None;
+        self.reported = None;
         self.ended.clear();
         self.unanswered.clear();
         self.dropped = [0; CLIENTS];
+        self.news = 0;
+        self.acknowledged = 0;
+        self.due_outstations.clear();
+        self.due_clients = [false; CLIENTS];
+    }
+
+    /// What the APDU was that a client sent, if one did.
+    pub fn apdu(&self) -> Option<ApduKind>
+        ensures { result ≡ self.now.told.apdu }
+    {
+        self.apdu
+    }
+
+    /// The task of the request that a poll gave, if it gave one.
+    pub fn task(&self) -> Option<Task>
+        ensures { result ≡ self.now.told.task }
+    {
+        self.task
+    }
+
+    /// What a fragment said, if one was accepted.
+    pub fn reported(&self) -> Option<Reported>
+        ensures { result ≡ self.now.told.reported }
+    {
+        self.reported
+    }
+
+    /// How many news it brought.
+    pub fn news(&self) -> u64
+        ensures { result ≡ self.now.told.news }
+    {
+        self.news
+    }
+
+    /// By how many I formats fewer wait for their acknowledgement than before an APDU of their client.
+    pub fn acknowledged(&self) -> usize
+        ensures { result ≡ self.now.told.acknowledged }
+    {
+        self.acknowledged
+    }
+
+    /// The outstations whose writer may have something to do: to which a request is due, or which came or went.
+    pub fn due_outstations(&self) -> &HeapCircularBuffer<usize>
+        ensures { result.now.items ≡ self.now.told.due_outstations }
+    {
+        &self.due_outstations
+    }
+
+    /// For each client whether its writer may have something to do: whether something may be put out to it, or it came or
+    /// went.
+    pub fn due_clients(&self) -> [bool; CLIENTS]
+        ensures { result ≡ self.now.told.due_clients }
+    {
+        self.due_clients
     }
 
     /// What was judged of a client's command for a control, if one came.
@@ -142,6 +242,59 @@ impl Effects {
         ensures { self.new ≡ record self.old { told = record self.old.told { command = Some judged } } }
     {
         self.command = Some(judged);
+    }
+
+    /// A client sent an APDU of this kind.
+    pub fn take_apdu(&mut self, kind: ApduKind)
+        ensures { self.new ≡ record self.old { told = record self.old.told { apdu = Some kind } } }
+    {
+        self.apdu = Some(kind);
+    }
+
+    /// A request of this task is given, or none.
+    pub fn ask(&mut self, task: Option<Task>)
+        ensures { self.new ≡ record self.old { told = record self.old.told { task = task } } }
+    {
+        self.task = task;
+    }
+
+    /// A response was accepted, which answers this task, or none.
+    pub fn report(&mut self, response: &Response, answers: Option<Task>)
+        ensures { self.new
+            ≡ record self.old { told = record self.old.told { reported = Some (reported_by response.now answers) } } }
+    {
+        self.reported = Some(Reported {
+            answers,
+            indications: response.internal_indications(),
+            is_unsolicited: response.is_unsolicited(),
+            observations: response.reports().len(),
+            events: event_count(response.reports()),
+        });
+    }
+
+    /// The step brought so many news, and so many I formats fewer wait for their acknowledgement.
+    pub fn count(&mut self, news: u64, acknowledged: usize)
+        ensures { self.new ≡ record self.old {
+          told = record self.old.told { news = news; acknowledged = acknowledged };
+        } }
+    {
+        self.news = news;
+        self.acknowledged = acknowledged;
+    }
+
+    /// The writer of this outstation may have something to do.
+    pub fn rouse_outstation(&mut self, outstation: usize)
+        requires room { length self.old.told.due_outstations < self.old.room }
+        ensures { self.new ≡ with_due (outstation ∷ []) self.old }
+    {
+        let _ = self.due_outstations.try_push_back(outstation);
+    }
+
+    /// And those of these clients.
+    pub fn rouse_clients(&mut self, clients: [bool; CLIENTS])
+        ensures { self.new ≡ record self.old { told = record self.old.told { due_clients = clients } } }
+    {
+        self.due_clients = clients;
     }
 
     /// An order ended.
@@ -270,6 +423,13 @@ impl Effects {
             }
         }
     }
+}
+
+/// How many of these are events.
+fn event_count(reports: &[Report]) -> usize
+    ensures { result ≡ event_count reports.now }
+{
+    reports.iter().filter(|report| report.event).count()
 }
 
 /// A client's count is this.

@@ -1,5 +1,5 @@
 //! Worked runs, computed by the step relation itself.
-ghost use Rattle.std.specs.Prelude.{◌≡◌, ◌-◌, ◌++◌, [], ◌∷◌, map, pos, Some, None, true, false, Ok, Err};
+ghost use Rattle.std.specs.Prelude.{◌≡◌, ◌-◌, ◌++◌, [], ◌∷◌, map, pos, replicate, Some, None, true, false, Ok, Err};
 ghost use Rattle.gw_steps.specs.declared.step.Step.TheVariants as steps;
 ghost use Rattle.gw_steps.specs.declared.step.Reply.TheVariants as replies;
 ghost use Rattle.gw_steps.specs.declared.step.StepFault.TheVariants.{NoOutstation, NoClient, NotUp, AlreadyUp, Spent};
@@ -17,7 +17,11 @@ ghost use Rattle.gw_steps.specs.Controls.{is_control_up, said_of_outcome};
 ghost use Rattle.gw_steps.specs.State.{at_first};
 ghost use Rattle.gw_steps.specs.Steps.{needs, outcome, outcomes_of_loss, parts_after_loss};
 ghost use Rattle.dnp_app.specs.declared.operation.Operation.TheVariants.{DirectOperate, Select};
+ghost use Rattle.dnp_master.specs.declared.task.Task.TheVariants as tasks;
+ghost use Rattle.gw_steps.specs.declared.apdu_kind.ApduKind.TheVariants as kinds;
 ghost use Rattle.gw_steps.specs.declared.effects.Fate.TheVariants as fates;
+ghost use Rattle.gw_steps.specs.Effects.{effects_of, no_client};
+ghost use Rattle.gw_steps.specs.Kinds.{kind_in};
 ghost use Rattle.gw_steps.specs.Example.{after_steps, ahead, answer, beginning, connect, control_of, counting, down, echo, ends, event, fragment_of, integrity_answer, interrogate, interrogated, last_count, next_reading, operate, outstation_down, outstation_up, poll, pump, pumps, reached, reading, returned, setup, solicited, start, started, starting, starts, three_orders, timed, two_clients, unanswered, up};
 
 /// Replies to single steps, with faults before them.
@@ -212,4 +216,37 @@ pub fn fates_by_example()
     ensures let_go { ends true (steps.ClientDown 1 0) ≡ (2, (1, fates.LetGo)) ∷ (3, (1, fates.LetGo)) ∷ [] }
     ensures goes_on { ends true (steps.ClientDown 0 0) ≡ [] }
     ensures of_another { ends true (steps.OutstationDown 1 0) ≡ [] }
+{}
+
+/// What comes by steps: what an APDU is, the task of a request, and what a fragment says.
+#[tactic(auto, unfolding(iec_command::specs::Commands::command_of))]
+pub fn comings_by_example()
+    ensures start { (effects_of setup (reached (connect ∷ [])) start).apdu ≡ Some (kinds.UFormat StartAct) }
+    // Clock synchronization, which isn't taken, without an address.
+    ensures unknown { kind_in (103 ∷ 1 ∷ 6 ∷ 0 ∷ 1 ∷ 0 ∷ [])
+        ≡ kinds.Unknown (record { identification = 103; common_address = 1; address = None }) }
+    ensures interrogates { kind_in (100 ∷ 1 ∷ 6 ∷ 0 ∷ 1 ∷ 0 ∷ 0 ∷ 0 ∷ 0 ∷ 20 ∷ []) ≡ kinds.Other }
+    ensures polled { (effects_of setup (reached returned) poll).task ≡ Some tasks.Integrity }
+    ensures answered { (effects_of setup (reached (returned ++ poll ∷ [])) (fragment_of integrity_answer)).reported
+        ≡ Some (record {
+          answers = Some tasks.Integrity;
+          indications = 0 ∷ 0 ∷ [];
+          is_unsolicited = false;
+          observations = 1;
+          events = 0;
+        }) }
+    ensures news { (effects_of setup (reached started) (fragment_of event)).news ≡ 1 }
+    ensures repeated { (effects_of setup (reached (started ++ fragment_of event ∷ [])) (fragment_of event)).reported ≡ None }
+{}
+
+/// Who may have something to do: client 0 behind an event, and nobody behind its repetition; the outstation once it comes up,
+/// and as time passes while a request is due to it, but not while it is asked.
+pub fn rousing_by_example()
+    ensures event { (effects_of setup (reached started) (fragment_of event)).due_clients ≡ true ∷ replicate 7 false }
+    ensures repeated { (effects_of setup (reached (started ++ fragment_of event ∷ [])) (fragment_of event)).due_clients
+        ≡ no_client }
+    ensures pump { (effects_of setup (reached (started ++ fragment_of event ∷ [])) pump).due_clients ≡ no_client }
+    ensures comes_up { (effects_of setup (at_first setup) outstation_up).due_outstations ≡ 0 ∷ [] }
+    ensures due { (effects_of setup (reached (outstation_up ∷ [])) (steps.Tick 0)).due_outstations ≡ 0 ∷ [] }
+    ensures asked { (effects_of setup (reached (outstation_up ∷ poll ∷ [])) (steps.Tick 0)).due_outstations ≡ [] }
 {}

@@ -3,16 +3,18 @@
 //! above the hub knows it as a `Machine`.
 #![tactic(auto)]
 
+mod apdu_kind;
 mod effects;
 mod examples;
 mod machine;
 mod step;
 
-pub use dnp_master::{Ignored, Verdict};
-pub use effects::{Effects, Fate, Judged, OrderEnd, fate_answered, only};
+pub use apdu_kind::{ApduKind, UnknownAsdu};
+pub use dnp_master::{Ignored, Task, Verdict};
+pub use effects::{Effects, Fate, Judged, OrderEnd, Reported, fate_answered, only};
 pub use examples::{interrogations_by_example, replies_by_example, runs_by_example};
 pub use gw_control::{Accepted, Outgoing};
-pub use gw_station::Why;
+pub use gw_station::{NewsPiece, Why};
 pub use iec_apci::{Apdu, ApduBuf, Signal};
 pub use machine::Machine;
-pub use step::{Reply, Step, StepFault};
+pub use step::{Reply, Step, StepFault, StepKind};

@@ -1,5 +1,5 @@
 //! What makes steps.
-ghost use Rattle.std.specs.Prelude.{◌≡◌, ◌≤◌, ◌↔◌, length, true, false, IfOk, IsTrue, Some, slice_get};
+ghost use Rattle.std.specs.Prelude.{◌≡◌, ◌+◌, ◌≤◌, ◌↔◌, drop, length, take, true, false, IfOk, IsTrue, Some, slice_get};
 ghost use Rattle.gw_steps.specs.State.{Hub};
 ghost use Rattle.gw_steps.specs.Steps.{client_up, Allowed};
 ghost use Rattle.gw_steps.specs.Sound.{IsSoundState};
@@ -9,7 +9,8 @@ ghost use Rattle.gw_steps.specs.Queries.{dropped_at, has_offer, is_poll_due, que
 use crate::effects::Effects;
 use crate::step::{Reply, Step, StepFault};
 use gw_control::Outgoing;
-use gw_model::Memory;
+use gw_model::{Memory, Observation};
+use gw_station::NewsPiece;
 
 /// Outstations and clients as one machine, that makes a step at a time and waits for nobody. What stands above the hub
 /// knows it by this trait, so that it rests on the step relation alone.
@@ -66,9 +67,19 @@ pub trait Machine: Sized + Drop {
     fn news(&self) -> u64
         ensures { result ≡ (seen self.now).state.counts.news };
 
-    /// How many commands were accepted as orders since it began: the number of the last of them.
-    fn orders(&self) -> u64
-        ensures { result ≡ (seen self.now).state.controls.ordered };
+    /// Copies the news from a number on, as many as find room, and tells which they are. Those that aren't kept any more
+    /// are passed over.
+    fn copy_news(&self, number: u64, room: &mut [Observation]) -> NewsPiece
+        ensures room { length room.new ≡ length room.old }
+        ensures few { result.count ≤ length room.old }
+        ensures total { result.total ≡ (seen self.now).state.counts.news }
+        ensures within { result.first + result.count ≤ (seen self.now).state.counts.news };
+
+    /// Copies what is shown of the rows from a position on, as many as find room; how many these are.
+    fn copy_picture(&self, position: usize, room: &mut [Observation]) -> usize
+        ensures room { length room.new ≡ length room.old }
+        ensures few { result ≤ length room.old }
+        ensures shown { take result room.new ≡ take result (drop position (seen self.now).state.picture) };
 
     /// For each outstation the orders that wait for it, and the one that is under way to it.
     fn outgoing(&self) -> &[Outgoing]

@@ -1,5 +1,8 @@
 //! The steps of the core, and what it replies.
+ghost use Rattle.std.specs.Prelude.{◌≡◌};
 ghost use Rattle.gw_steps.specs.Carried.{IsMeant};
+ghost use Rattle.gw_steps.specs.Kinds.{step_kind};
+ghost use Rattle.gw_steps.specs.Steps.{moment_of};
 
 use dnp_app::{Request, Response};
 use dnp_master::Verdict;
@@ -60,7 +63,64 @@ pub enum Step {
     },
 }
 
+/// What a step is about: the outstation or client, by its position.
+#[derive(Clone, Copy)]
+pub enum StepKind {
+    /// The connection to an outstation stands.
+    OutstationUp(u8),
+    /// The connection to an outstation is lost.
+    OutstationDown(u8),
+    /// A fragment of an outstation.
+    Fragment(u8),
+    /// A request for an outstation is asked for.
+    Poll(u8),
+    /// A client connected.
+    ClientUp(u8),
+    /// The connection to a client is lost.
+    ClientDown(u8),
+    /// An APDU of a client.
+    Frame(u8),
+    /// An APDU for a client is asked for.
+    Pump(u8),
+    /// Time has passed.
+    Tick,
+}
+
 impl Step {
+    /// What it is about.
+    pub fn kind(&self) -> StepKind
+        ensures { result ≡ step_kind self.now }
+    {
+        match self {
+            Step::OutstationUp { outstation, .. } => StepKind::OutstationUp(*outstation),
+            Step::OutstationDown { outstation, .. } => StepKind::OutstationDown(*outstation),
+            Step::Fragment { response, .. } => StepKind::Fragment(response.outstation()),
+            Step::Poll { outstation, .. } => StepKind::Poll(*outstation),
+            Step::ClientUp { client, .. } => StepKind::ClientUp(*client),
+            Step::ClientDown { client, .. } => StepKind::ClientDown(*client),
+            Step::Frame { client, .. } => StepKind::Frame(*client),
+            Step::Pump { client, .. } => StepKind::Pump(*client),
+            Step::Tick { .. } => StepKind::Tick,
+        }
+    }
+
+    /// Its moment.
+    pub fn moment(&self) -> u64
+        ensures { result ≡ moment_of self.now }
+    {
+        match self {
+            Step::OutstationUp { moment, .. }
+            | Step::OutstationDown { moment, .. }
+            | Step::Fragment { moment, .. }
+            | Step::Poll { moment, .. }
+            | Step::ClientUp { moment, .. }
+            | Step::ClientDown { moment, .. }
+            | Step::Frame { moment, .. }
+            | Step::Pump { moment, .. }
+            | Step::Tick { moment } => *moment,
+        }
+    }
+
     /// Tells a proof what the type of responses keeps of a fragment that the step carries. It does nothing.
     pub fn attest(&self)
         ensures { IsMeant self.now }

@@ -14,7 +14,7 @@ mod source;
 mod standstill;
 mod ticking;
 
-pub use call::{About, Asked, Call, Run, control_command, make_call};
+pub use call::{Call, Run, control_command, make_call};
 pub use client_writing::client_writer;
 pub use gate::{FrameHeader, Gate, OpenGate, Place};
 pub use gw_clock::Clock;
@@ -23,9 +23,10 @@ pub use gw_ends::{
     Source, Unwritten, WorkerEnd, apdu_in, put_out,
 };
 pub use gw_shared::{
-    Answer, Bell, Calls, CloseFault, Closed, Core, Course, Effects, Entry, Fate, Figures, Judged,
-    Kept, KeptStep, Load, Machine, Made, Opened, OrderCounts, OrderEnd, Pass, Pumped, Recorder,
-    Refusal, Reply, Shared, Step, StepFault, Verdict, Why, open_course, order_accepted,
+    Answer, ApduKind, Bell, Calls, CloseFault, Closed, Core, Course, Effects, Entry, Fate, Figures,
+    Judged, Kept, KeptStep, Load, Machine, Made, NewsPiece, Opened, OrderCounts, OrderEnd, Pass,
+    Pumped, Recorder, Refusal, Reply, Reported, Shared, Step, StepFault, StepKind, Task,
+    UnknownAsdu, Verdict, Why, open_course, order_accepted,
 };
 pub use lost::{lose_client, lose_outstation};
 pub use outstation_writing::outstation_writer;

@@ -4,7 +4,7 @@
 use gw_journal::{CommandEvent, JournalEvent, OrderEvent, Reason};
 use gw_peers::Desk;
 use gw_threads::{
-    About, Asked, Call, Clock, Fate, OrderEnd, Reply, Run, control_command, order_accepted,
+    ApduKind, Call, Clock, Fate, OrderEnd, Reply, Run, StepKind, control_command, order_accepted,
 };
 use iec_apci::Apdus;
 use iec_command::Command;
@@ -16,19 +16,14 @@ const FRONT: usize = 6;
 
 /// Tells what a step did with a control, if it did something.
 pub fn tell_of_controls<R: Wait, C: Clock>(desk: &Desk<'_, R, C>, call: &Call<'_>) {
-    match (call.about, call.reply) {
-        (
-            About::Frame {
-                client,
-                asked: Asked::Control(command),
-                ..
-            },
-            Ok(_),
-        ) => {
-            let order = order_accepted(call.effects);
-            tell_command(desk, client, command, CommandEvent::Came { order });
+    match (call.kind, call.reply) {
+        (StepKind::Frame(client), Ok(_)) => {
+            if let Some(ApduKind::Command(command)) = call.effects.apdu() {
+                let order = order_accepted(call.effects);
+                tell_command(desk, client, command, CommandEvent::Came { order });
+            }
         }
-        (About::Poll(outstation), Ok(Reply::Request(request))) => {
+        (StepKind::Poll(outstation), Ok(Reply::Request(request))) => {
             if let Some(order) = request.bond {
                 // The command comes first, and what became of the order before.
                 desk.board.sequence.settle(desk.rt);
@@ -41,7 +36,7 @@ pub fn tell_of_controls<R: Wait, C: Clock>(desk: &Desk<'_, R, C>, call: &Call<'_
 
 /// Notes what a client is to be told of its command: that it is an order, or why it is refused.
 pub fn note_refusal<R: Wait, C: Clock>(desk: &Desk<'_, R, C>, call: &Call<'_>) {
-    let (About::Frame { client, .. }, Some(judged)) = (call.about, call.effects.command()) else {
+    let (StepKind::Frame(client), Some(judged)) = (call.kind, call.effects.command()) else {
         return;
     };
     let Some(card) = desk.board.client(client) else {

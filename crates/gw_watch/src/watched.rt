@@ -3,23 +3,14 @@
 
 use crate::controls::{note_refusal, tell_end, tell_of_commands, tell_of_controls};
 use dnp_app::AppFault;
-use gw_journal::{JournalEvent, RequestPurpose, UnknownAsdu, Unreadable, Way};
+use gw_journal::{JournalEvent, Unreadable, Way};
 use gw_peers::{Desk, Source};
-use gw_threads::{About, Asked, Call, Clock, FrameHeader, Gate, Place, Reply, Run, Step, Verdict};
+use gw_threads::{
+    ApduKind, Call, Clock, FrameHeader, Gate, Place, Reply, Reported, Run, Step, StepKind,
+    UnknownAsdu, Verdict,
+};
 use iec_apci::{Apdu, Apdus, Signal};
 use std::sync::Wait;
-
-/// WRITE (IEEE Std 1815, 4.4.3).
-const WRITE: u8 = 2;
-
-/// The group of times.
-const TIMES: u8 = 50;
-
-/// READ (4.4.2).
-const READ: u8 = 1;
-
-/// How a request for all that an outstation has ends: the header of class 0 (group 60 variation 1, all objects).
-const CLASS_0: &[u8] = &[60, 1, 6];
 
 /// Where the control field of an APDU begins, and with which octet that of a TESTFR act does (IEC 60870-5-104, 5.1).
 const CONTROL: usize = 2;
@@ -33,14 +24,14 @@ pub struct Watched<'a, R, C, G> {
     pub gate: &'a G,
 }
 
-/// A fragment of an outstation was taken by the step of this number.
+/// A fragment of an outstation that said this was accepted by the step of this number, and ends the answer to a request or
+/// doesn't.
 fn answered<R: Wait, C: Clock>(
     desk: &Desk<'_, R, C>,
     step: u64,
     outstation: u8,
-    indications: [u8; 2],
-    ended: bool,
-    events: u32,
+    reported: &Reported,
+    ends: bool,
 ) {
     let Some(card) = desk.board.outstation(outstation) else {
         return;
@@ -49,15 +40,15 @@ fn answered<R: Wait, C: Clock>(
     let noticed = card
         .figures
         .lock(desk.rt)
-        .answered(step, wall, indications, ended, u64::from(events));
+        .answered(step, wall, reported, ends);
     card.takes_reports(desk.rt);
     desk.tell_noticed(outstation, noticed);
 }
 
-/// A request goes to an outstation, which the step of this number gave.
-fn asked<R: Wait, C: Clock>(desk: &Desk<'_, R, C>, step: u64, outstation: u8, request: &[u8]) {
+/// A request goes to an outstation.
+fn asked<R: Wait, C: Clock>(desk: &Desk<'_, R, C>, outstation: u8) {
     if let Some(card) = desk.board.outstation(outstation) {
-        card.figures.lock(desk.rt).asked(step, purpose_of(request));
+        card.figures.lock(desk.rt).asked();
     }
 }
 
@@ -66,6 +57,17 @@ fn unanswered<R: Wait, C: Clock>(desk: &Desk<'_, R, C>, step: u64, outstation: u
     if let Some(card) = desk.board.outstations().get(outstation) {
         let wall = desk.clock.wall();
         card.figures.lock(desk.rt).unanswered(step, wall);
+    }
+}
+
+/// A tick closed the connections of the clients whose bit is set, since t1 had expired.
+fn expired<R: Wait, C: Clock>(desk: &Desk<'_, R, C>, closed: u8) {
+    let mut left = closed;
+    for card in desk.board.clients() {
+        if left % 2 == 1 {
+            card.expires(desk.rt);
+        }
+        left /= 2;
     }
 }
 
@@ -97,34 +99,23 @@ fn refused<R: Wait, C: Clock>(
     }
 }
 
-/// An APDU of a client was taken, with the function of its U format if it is one.
-fn heard<R: Wait, C: Clock>(desk: &Desk<'_, R, C>, client: u8, signal: Option<Signal>) {
+/// An APDU of a client was taken.
+fn heard<R: Wait, C: Clock>(desk: &Desk<'_, R, C>, client: u8, kind: ApduKind) {
     if let Some(card) = desk.board.client(client) {
-        let confirms_test = matches!(signal, Some(Signal::TestCon));
+        let confirms_test = matches!(kind, ApduKind::UFormat(Signal::TestCon));
         card.hears(desk.rt, desk.clock.moment(), confirms_test);
     }
-    if let Some(signal) = signal {
-        signalled(desk, client, signal);
+    match kind {
+        ApduKind::UFormat(signal) => signalled(desk, client, signal),
+        ApduKind::Unknown(asdu) => asked_unknown(desk, client, asdu),
+        ApduKind::SFormat | ApduKind::Command(_) | ApduKind::Other => {}
     }
 }
 
-/// A client asked for something, which may be of a type that isn't known.
-fn asked_unknown<R: Wait, C: Clock>(desk: &Desk<'_, R, C>, client: u8, asked: Asked) {
-    let Asked::Unknown {
-        identification,
-        common_address,
-        address,
-    } = asked
-    else {
-        return;
-    };
+/// A client sent an ASDU of a type that isn't known.
+fn asked_unknown<R: Wait, C: Clock>(desk: &Desk<'_, R, C>, client: u8, asdu: UnknownAsdu) {
     let Some(card) = desk.board.client(client) else {
         return;
-    };
-    let asdu = UnknownAsdu {
-        identification,
-        common_address,
-        address,
     };
     let wall = desk.clock.wall();
     let told = card.figures.lock(desk.rt).unknown(wall, asdu);
@@ -169,32 +160,22 @@ fn signalled<R: Wait, C: Clock>(desk: &Desk<'_, R, C>, client: u8, signal: Signa
 
 /// Notes what a step did, and tells of it.
 fn made<R: Wait, C: Clock>(desk: &Desk<'_, R, C>, call: &Call<'_>) {
-    match (call.about, call.reply) {
-        (
-            About::Fragment {
-                outstation,
-                indications,
-                events,
-                ..
-            },
-            Ok(Reply::Verdict(Verdict::Accepted { end, .. })),
-        ) => answered(desk, call.number, outstation, indications, *end, events),
-        (About::Poll(outstation), Ok(Reply::Request(request))) => {
-            asked(desk, call.number, outstation, request.as_slice());
+    match (call.kind, call.reply) {
+        (StepKind::Fragment(outstation), Ok(Reply::Verdict(Verdict::Accepted { end, .. }))) => {
+            if let Some(reported) = call.effects.reported() {
+                answered(desk, call.number, outstation, &reported, *end);
+            }
         }
-        (About::OutstationDown(outstation), Ok(Reply::Done)) => lost(desk, outstation),
-        (About::Tick, Ok(_)) => desk.board.pulse.beat(desk.clock.moment()),
-        (
-            About::Frame {
-                client,
-                signal,
-                asked,
-                ..
-            },
-            Ok(Reply::Taken),
-        ) => {
-            heard(desk, client, signal);
-            asked_unknown(desk, client, asked);
+        (StepKind::Poll(outstation), Ok(Reply::Request(_))) => asked(desk, outstation),
+        (StepKind::OutstationDown(outstation), Ok(Reply::Done)) => lost(desk, outstation),
+        (StepKind::Tick, Ok(Reply::Ticked { closed })) => {
+            desk.board.pulse.beat(desk.clock.moment());
+            expired(desk, *closed);
+        }
+        (StepKind::Frame(client), Ok(Reply::Taken)) => {
+            if let Some(kind) = call.effects.apdu() {
+                heard(desk, client, kind);
+            }
         }
         _ => {}
     }
@@ -263,7 +244,7 @@ impl<'a, R: Wait, C: Clock, G: Gate> Gate for Watched<'a, R, C, G> {
     }
 
     fn line_of(&self, step: &Step) -> Option<Vec<u8>> {
-        if let Some(source) = source_of(step) {
+        if let Some(source) = source_of(step.kind()) {
             self.desk.board.sequence.begin(self.desk.rt, source);
         }
         foresee(self.desk, step);
@@ -273,7 +254,7 @@ impl<'a, R: Wait, C: Clock, G: Gate> Gate for Watched<'a, R, C, G> {
     fn made(&self, call: &Call<'_>, line: Option<Vec<u8>>) {
         made(self.desk, call);
         self.gate.made(call, line);
-        if let Some(source) = source_about(call.about) {
+        if let Some(source) = source_of(call.kind) {
             self.desk.board.sequence.end(self.desk.rt, source);
         }
     }
@@ -313,41 +294,16 @@ fn foresee<R: Wait, C: Clock>(desk: &Desk<'_, R, C>, step: &Step) {
 }
 
 /// From where a step comes of which others wait until it was told.
-fn source_of(step: &Step) -> Option<Source> {
-    match step {
-        Step::Frame { client, .. } => Some(Source::Client(*client)),
-        Step::Fragment { response, .. } => Some(Source::Outstation(response.outstation())),
-        Step::OutstationDown { outstation, .. } => Some(Source::Loss(*outstation)),
-        Step::Tick { .. } => Some(Source::Clock),
-        Step::OutstationUp { .. }
-        | Step::Poll { .. }
-        | Step::ClientUp { .. }
-        | Step::ClientDown { .. }
-        | Step::Pump { .. } => None,
-    }
-}
-
-/// The same of one that was made.
-fn source_about(about: About) -> Option<Source> {
-    match about {
-        About::Frame { client, .. } => Some(Source::Client(client)),
-        About::Fragment { outstation, .. } => Some(Source::Outstation(outstation)),
-        About::OutstationDown(outstation) => Some(Source::Loss(outstation)),
-        About::Tick => Some(Source::Clock),
-        About::OutstationUp(_)
-        | About::Poll(_)
-        | About::ClientUp(_)
-        | About::ClientDown(_)
-        | About::Pump(_) => None,
-    }
-}
-
-/// What a request asks for: it writes the time by function WRITE and an object of group 50, and asks for all by function READ
-/// and class 0.
-fn purpose_of(request: &[u8]) -> RequestPurpose {
-    let function = request.get(1);
-    RequestPurpose {
-        writes_time: function == Some(&WRITE) && request.get(2) == Some(&TIMES),
-        asks_for_all: function == Some(&READ) && request.ends_with(CLASS_0),
+fn source_of(kind: StepKind) -> Option<Source> {
+    match kind {
+        StepKind::Frame(client) => Some(Source::Client(client)),
+        StepKind::Fragment(outstation) => Some(Source::Outstation(outstation)),
+        StepKind::OutstationDown(outstation) => Some(Source::Loss(outstation)),
+        StepKind::Tick => Some(Source::Clock),
+        StepKind::OutstationUp(_)
+        | StepKind::Poll(_)
+        | StepKind::ClientUp(_)
+        | StepKind::ClientDown(_)
+        | StepKind::Pump(_) => None,
     }
 }

@@ -1,11 +1,11 @@
 //! The hub as the machine that others make steps on.
 
 use crate::hub::Hub;
-use crate::hub::telling::clear_after_fault;
+use crate::hub::queries::copy_rows;
 use crate::parts::{clients_over, field_over};
 use gw_control::Outgoing;
-use gw_model::Memory;
-use gw_steps::{Effects, Machine, Reply, Step, StepFault};
+use gw_model::{Memory, Observation};
+use gw_steps::{Effects, Machine, NewsPiece, Reply, Step, StepFault};
 
 impl Machine for Hub {
     ghost seen = { λ hub. hub };
@@ -38,12 +38,14 @@ impl Machine for Hub {
         reply
     }
 
-    // What it will do is told from what the hub is before, so that the steps need know nothing of it.
+    // What it will do is told from what the hub is before, and the rest from what it is behind it, so that the steps need know
+    // nothing of it.
     fn step_telling(&mut self, step: &Step, effects: &mut Effects) -> Result<Reply, StepFault> {
         effects.clear();
         self.tell(step, effects);
+        let (news, waiting) = (self.counts.news(), self.waiting_for(step));
         let reply = self.step(step);
-        clear_after_fault(&reply, effects);
+        self.tell_behind(step, &reply, news, waiting, effects);
         reply
     }
 
@@ -108,8 +110,12 @@ impl Machine for Hub {
         self.counts.news()
     }
 
-    fn orders(&self) -> u64 {
-        self.controls.ordered()
+    fn copy_news(&self, number: u64, room: &mut [Observation]) -> NewsPiece {
+        self.clients.copy_news(number, room)
+    }
+
+    fn copy_picture(&self, position: usize, room: &mut [Observation]) -> usize {
+        copy_rows(self.picture(), position, room)
     }
 
     fn outgoing(&self) -> &[Outgoing] {

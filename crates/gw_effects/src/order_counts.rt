@@ -1,28 +1,8 @@
-//! How orders end, and how many did.
+//! How many orders there were, and how they ended.
 ghost use Rattle.std.specs.Prelude.{◌≡◌, ◌-◌};
-ghost use Rattle.gw_control.specs.Counts.{counting_accepted, counting_answered, counting_ended, no_orders, one_more};
+ghost use Rattle.gw_effects.specs.Counts.{counting_accepted, counting_ended, no_orders, one_more};
 
-/// What became of an order without an answer of its outstation.
-#[derive(Clone, Copy, PartialEq)]
-pub enum Fate {
-    /// Its outstation was lost.
-    Lost,
-    /// It was given, and no answer came in time.
-    Unanswered,
-    /// Its client's session ended before it was given.
-    LetGo,
-}
-
-/// An order that ended without an answer of its outstation.
-#[derive(Clone, Copy, PartialEq)]
-pub struct Settled {
-    /// Its number.
-    pub order: u64,
-    /// The outstation that it was for.
-    pub outstation: u8,
-    /// What became of it.
-    pub fate: Fate,
-}
+use gw_steps::Fate;
 
 /// How many orders for an outstation were accepted, and what became of them.
 #[derive(Clone, Copy)]
@@ -74,24 +54,16 @@ impl OrderCounts {
         add_one(&mut self.accepted);
     }
 
-    /// One ended with an answer.
-    pub fn answer(&mut self, done: bool)
-        ensures { self.new ≡ counting_answered done self.old }
-    {
-        if done {
-            add_one(&mut self.done);
-        } else {
-            add_one(&mut self.failed);
-        }
-    }
-
-    /// One ended without one.
-    pub fn settle(&mut self, fate: Fate)
+    /// One ended so.
+    pub fn end(&mut self, fate: Fate)
         ensures { self.new ≡ counting_ended fate self.old }
     {
         match fate {
-            Fate::Lost | Fate::Unanswered => add_one(&mut self.failed),
+            Fate::Done => add_one(&mut self.done),
             Fate::LetGo => add_one(&mut self.let_go),
+            Fate::Refused(..) | Fate::Otherwise(_) | Fate::Unanswered(_) | Fate::Lost => {
+                add_one(&mut self.failed);
+            }
         }
     }
 }

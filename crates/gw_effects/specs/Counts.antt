@@ -1,8 +1,8 @@
 -- How many orders for an outstation were accepted, and what became of them.
-use Rattle.std.specs.Prelude.{ℕ, ◌+◌, ◌-◌, ◌^◌, min, Bool, if◌then◌else◌}
-use Rattle.gw_control.specs.declared.settled.Fate.{Fate}
-use Rattle.gw_control.specs.declared.settled.Fate.TheVariants.{Lost, Unanswered, LetGo}
-use Rattle.gw_control.specs.declared.settled.OrderCounts.{OrderCounts}
+use Rattle.std.specs.Prelude.{ℕ, ◌+◌, ◌-◌, ◌^◌, min}
+use Rattle.gw_steps.specs.declared.effects.Fate.{Fate}
+use Rattle.gw_steps.specs.declared.effects.Fate.TheVariants.{Done, Refused, Otherwise, Unanswered, Lost, LetGo}
+use Rattle.gw_effects.specs.declared.order_counts.OrderCounts.{OrderCounts}
 
 -- one more, as long as there is a number for it
 abbrev pub one_more : ℕ → ℕ
@@ -20,13 +20,11 @@ counting_accepted counts = record counts { accepted = one_more counts.accepted }
 abbrev pub counting_failed : OrderCounts → OrderCounts
 counting_failed counts = record counts { failed = one_more counts.failed }
 
--- one more was answered: it was done, or failed
-abbrev pub counting_answered : Bool → OrderCounts → OrderCounts
-counting_answered done counts =
-    if done then record counts { done = one_more counts.done } else counting_failed counts
-
--- one more ended without an answer
+-- one more ended so
 abbrev pub counting_ended : Fate → OrderCounts → OrderCounts
+counting_ended Done counts = record counts { done = one_more counts.done }
+counting_ended (Refused operation status) counts = counting_failed counts
+counting_ended (Otherwise operation) counts = counting_failed counts
+counting_ended (Unanswered operation) counts = counting_failed counts
 counting_ended Lost counts = counting_failed counts
-counting_ended Unanswered counts = counting_failed counts
 counting_ended LetGo counts = record counts { let_go = one_more counts.let_go }
