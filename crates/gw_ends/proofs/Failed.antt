@@ -63,3 +63,6 @@ silence_reads (Some ends.WriteFault) silence = refl
 silence_reads (Some (ends.Malformed fault)) silence = refl
 silence_reads (Some ends.Memory) silence = refl
 silence_reads (Some ends.Stopping) silence = refl
+
+-- how a reader that also writes may have failed
+pub ruleset reader_ends = (reading_fails, frames_read, silence_reads)

@@ -6,3 +6,4 @@ pub mod Follow
 pub mod Worked
 pub mod Whole
 pub mod Spelled
+pub mod Saying

@@ -19,7 +19,7 @@ pub request_goes_whole : (own peer sequence : ℕ) (r : Request) → length r.oc
 request_goes_whole own peer sequence r full =
     ap (λ (octets : List ℕ). framed own peer (segments_of octets (sequence % 64))) (one_carries r full)
 
-pub whole_is_all : (own peer : ℕ) (before after : List ℕ) (what : Sent)
-    → Took own peer (Some before) (Some after) (record { what = what; whole = true })
-    → (sequence : ℕ) × (after ≡ before ++ sent_octets own peer sequence what)
-whole_is_all own peer before after what took = (took.0, took.1.1)
+pub whole_is_all : (own peer segments : ℕ) (before after : List ℕ) (what : Sent)
+    → Took own peer segments (Some before) (Some after) (record { what = what; whole = true })
+    → after ≡ before ++ sent_octets own peer segments what
+whole_is_all own peer segments before after what took = took.1

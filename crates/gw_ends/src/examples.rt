@@ -8,13 +8,13 @@ ghost use Rattle.gw_steps.specs.declared.step.Reply.TheVariants as replies;
 ghost use Rattle.gw_steps.specs.declared.step.StepFault.TheVariants.{Spent};
 ghost use Rattle.gw_ends.specs.declared.ends.Arrival.TheVariants as arrivals;
 ghost use Rattle.gw_ends.specs.declared.putting.Put.TheVariants as puts;
-ghost use Rattle.gw_ends.specs.declared.sent.Sent.TheVariants.{Confirm, Reply, Request};
+ghost use Rattle.gw_ends.specs.declared.sent.Sent.TheVariants.{Confirm, Reply, Request, Status};
 ghost use Rattle.gw_ends.specs.declared.worker_end.WorkerEnd.TheVariants as ends;
 ghost use Rattle.gw_ends.specs.Ends.{is_fault, is_read_fault, is_write_fault, reading_end};
 ghost use Rattle.gw_ends.specs.Framed.{status_request};
 ghost use Rattle.gw_ends.specs.Octets.{joined, octets_in};
 ghost use Rattle.gw_ends.specs.PutOut.{is_unwritten, writing_end};
-ghost use Rattle.gw_ends.specs.Sent.{is_cut_off, sent_octets, Took, TookAll};
+ghost use Rattle.gw_ends.specs.Sent.{is_cut_off, segments_sent, sent_octets, Took, TookAll};
 
 /// One worker sent a frame, which was taken whole; then another one sent a frame, of which the first two octets were taken. Where
 /// nothing was sent, nothing was taken.
@@ -29,9 +29,9 @@ pub fn two_frames()
 
 /// Two octets of a frame of three are a front of it, and not the whole.
 pub fn front_of_a_frame()
-    ensures whole { (own peer : ℕ) → Took own peer (Some []) (Some (1 ∷ 2 ∷ []))
+    ensures whole { (own peer segments : ℕ) → Took own peer segments (Some []) (Some (1 ∷ 2 ∷ []))
         (record { what = Reply (1 ∷ 2 ∷ 3 ∷ []); whole = true }) → ⊥ }
-    ensures front { (own peer : ℕ) → Took own peer (Some []) (Some (1 ∷ 2 ∷ []))
+    ensures front { (own peer segments : ℕ) → Took own peer segments (Some []) (Some (1 ∷ 2 ∷ []))
         (record { what = Reply (1 ∷ 2 ∷ 3 ∷ []); whole = false }) }
 {}
 
@@ -44,11 +44,25 @@ pub fn frames_on_the_line()
         ≡ 0x05 ∷ 0x64 ∷ 0x1A ∷ 0xC4 ∷ 0x0A ∷ 0x00 ∷ 0x01 ∷ 0x00 ∷ 0x8A ∷ 0x1C
         ∷ 0xC0 ∷ 0xC3 ∷ 0x05 ∷ 0x0C ∷ 0x01 ∷ 0x28 ∷ 0x01 ∷ 0x00 ∷ 0x05 ∷ 0x00 ∷ 0x03 ∷ 0x01 ∷ 0x00 ∷ 0x00 ∷ 0x00 ∷ 0x00
         ∷ 0xDD ∷ 0xC8 ∷ 0x00 ∷ 0x00 ∷ 0x00 ∷ 0x00 ∷ 0x00 ∷ 0xFF ∷ 0xFF ∷ [] }
-    // A confirmation, where the transport function has come to sequence number 63.
+    // A confirmation behind 63 segments has the sequence number 63, and behind 64 of them 0.
     ensures confirmation { sent_octets 1 10 63 (Confirm (0xC3 ∷ 0x00 ∷ [])) ≡ 0x05 ∷ 0x64 ∷ 0x08 ∷ 0xC4 ∷ 0x0A ∷ 0x00 ∷ 0x01
         ∷ 0x00 ∷ 0xFC ∷ 0x42 ∷ 0xFF ∷ 0xC3 ∷ 0x00 ∷ 0x02 ∷ 0x91 ∷ [] }
+    ensures around { sent_octets 1 10 64 (Confirm (0xC3 ∷ 0x00 ∷ [])) ≡ 0x05 ∷ 0x64 ∷ 0x08 ∷ 0xC4 ∷ 0x0A ∷ 0x00 ∷ 0x01
+        ∷ 0x00 ∷ 0xFC ∷ 0x42 ∷ 0xC0 ∷ 0xC3 ∷ 0x00 ∷ 0x98 ∷ 0x26 ∷ [] }
     // REQUEST_LINK_STATUS.
     ensures status { status_request 1 10 ≡ 0x05 ∷ 0x64 ∷ 0x05 ∷ 0xC9 ∷ 0x0A ∷ 0x00 ∷ 0x01 ∷ 0x00 ∷ 0xFE ∷ 0xDA ∷ [] }
+{}
+
+/// Two confirmations of a line, the second behind one segment. The request for the status of the link carries no segment, and one
+/// that wasn't taken whole doesn't count: the next one has its number.
+pub fn segments_on_the_line()
+    ensures took { TookAll 1 10 (Some [])
+        (Some (sent_octets 1 10 0 (Confirm (0xC3 ∷ 0x00 ∷ [])) ++ sent_octets 1 10 1 (Confirm (0xC4 ∷ 0x00 ∷ []))))
+        ((0, record { what = Confirm (0xC4 ∷ 0x00 ∷ []); whole = true })
+        ∷ (0, record { what = Confirm (0xC3 ∷ 0x00 ∷ []); whole = true }) ∷ []) }
+    ensures counted { segments_sent ((0, record { what = Confirm (0xC4 ∷ 0x00 ∷ []); whole = false })
+        ∷ (0, record { what = Status; whole = true })
+        ∷ (1, record { what = Request (request_of (0xC0 ∷ 0x18 ∷ [])); whole = true }) ∷ []) ≡ 1 }
 {}
 
 /// The octets of TESTFR con, and these with those of an S format behind them.

@@ -1,5 +1,5 @@
 //! The line to an outstation, which its reader and its writer share.
-ghost use Rattle.std.specs.Prelude.{◌≡◌, ◌||◌, ℕ, [], is_ok};
+ghost use Rattle.std.specs.Prelude.{◌≡◌, ◌||◌, is_ok};
 ghost use Rattle.gw_ends.specs.Sent.{is_cut_off, sendings, IsNew, IsSent, TookAll};
 ghost use Rattle.gw_ends.specs.declared.sent.Sent.TheVariants as sents;
 
@@ -11,10 +11,14 @@ use one_log::{Front, Head, Naming, Opened};
 use std::marker::{Brand, Model};
 use std::sync::{Condvar, Mutex, Wait};
 
-/// Which line it is: the name of its history, what its writer had taken at first, and whether a write had failed then.
-/// Each call of a program picks it.
+/// Which line it is: the name of its history, the link addresses of the master and of the outstation, what its writer had taken
+/// at first, and whether a write had failed then. Each call of a program picks it.
 pub trait LineCourse: Naming {
     ghost use Rattle.std.specs.Prelude.{ℕ, Bool, List, Option};
+
+    ghost own: { ℕ };
+
+    ghost peer: { ℕ };
 
     ghost first: { Option (List ℕ) };
 
@@ -23,6 +27,10 @@ pub trait LineCourse: Naming {
 
 impl LineCourse for Brand {
     ghost use Rattle.std.specs.Prelude.{false, None};
+
+    ghost own = { 1 };
+
+    ghost peer = { 10 };
 
     ghost first = { None };
 
@@ -38,24 +46,27 @@ struct Held<W: Outgoing, N: LineCourse> {
     owed: bool,
 }
 
-// The writer took just what was sent, and a write of it failed where that wasn't taken whole.
+// The writer took just what was sent, from the line's address to its peer's, and a write of it failed where that wasn't taken whole;
+// the next sequence number of the transport function is how many segments were sent, modulo 64.
 impl<W: Outgoing, N: LineCourse> Model for Held<W, N> {
-    ghost use Rattle.std.specs.Prelude.{◌≡◌, ◌||◌, ℕ, List};
+    ghost use Rattle.std.specs.Prelude.{◌≡◌, ◌%◌, ◌||◌, ℕ, List};
     ghost use Rattle.gw_ends.specs.declared.sent.Sending.{Sending as SendingSeen};
-    ghost use Rattle.gw_ends.specs.Sent.{is_cut_off, sendings, TookAll};
+    ghost use Rattle.gw_ends.specs.Sent.{is_cut_off, segments_sent, sendings, TookAll};
 
     ghost Value = { List (ℕ × SendingSeen) };
 
     ghost view = { λ h. h.head.log };
 
-    ghost invariant = { λ h. TookAll h.wire.own h.wire.peer N.first (W.contents h.wire.writer) h.head.log
-        × (W.has_failed h.wire.writer ≡ (is_cut_off (sendings h.head.log) || N.failed)) };
+    ghost invariant = { λ h. TookAll N.own N.peer N.first (W.contents h.wire.writer) h.head.log
+        × (W.has_failed h.wire.writer ≡ (is_cut_off (sendings h.head.log) || N.failed))
+        × (h.wire.own ≡ N.own) × (h.wire.peer ≡ N.peer)
+        × (h.wire.sequence % 64 ≡ segments_sent h.head.log % 64) };
 }
 
 impl<W: Outgoing, N: LineCourse> Held<W, N> {
     /// Its writer, and the end of its history.
     fn into_parts(self) -> (W, Head<Sending, N>)
-        ensures took { (own : ℕ) × ((peer : ℕ) × TookAll own peer N.first (W.contents result.0) result.1.log) }
+        ensures took { TookAll N.own N.peer N.first (W.contents result.0) result.1.log }
         ensures failed { W.has_failed result.0 ≡ (is_cut_off (sendings result.1.log) || N.failed) }
     {
         let Held {
@@ -96,6 +107,7 @@ impl<W: Outgoing, N: LineCourse> Line<W, N> {
     /// A line on which nothing was sent: from the master's address to the outstation's.
     pub fn new(writer: W, own: u16, peer: u16, history: Opened<Sending>) -> Line<W, N>
         requires book { history.seen.book ≡ N.book }
+        requires addresses { (own ≡ N.own) × (peer ≡ N.peer) }
         requires first { W.contents writer ≡ N.first }
         requires failed { W.has_failed writer ≡ N.failed }
     {
@@ -116,9 +128,10 @@ impl<W: Outgoing, N: LineCourse> Line<W, N> {
         self.held.lock(rt).join()
     }
 
-    /// Its writer, and the end of its history: the writer took just what was sent, of what it didn't take whole a front.
+    /// Its writer, and the end of its history: the writer took just what was sent, from the line's address to its peer's, of what it
+    /// didn't take whole a front.
     pub fn into_parts(self) -> (W, Head<Sending, N>)
-        ensures took { (own : ℕ) × ((peer : ℕ) × TookAll own peer N.first (W.contents result.0) result.1.log) }
+        ensures took { TookAll N.own N.peer N.first (W.contents result.0) result.1.log }
         ensures failed { W.has_failed result.0 ≡ (is_cut_off (sendings result.1.log) || N.failed) }
     {
         let Line { held, settled: _ } = self;

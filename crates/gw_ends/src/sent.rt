@@ -1,6 +1,6 @@
 //! What is sent on a line.
-ghost use Rattle.std.specs.Prelude.{◌≡◌, ◌||◌, is_err, is_ok};
-ghost use Rattle.gw_ends.specs.Sent.{Took};
+ghost use Rattle.std.specs.Prelude.{◌≡◌, ◌+◌, ◌%◌, ◌||◌, is_err, is_ok, if◌then◌else◌};
+ghost use Rattle.gw_ends.specs.Sent.{segments_in, Took};
 
 use crate::ends::{Outgoing, Unwritten};
 use crate::wire::{ONE_SEGMENT, Wire};
@@ -29,8 +29,11 @@ pub struct Sending {
 
 /// Sends it.
 pub fn put<W: Outgoing>(wire: &mut Wire<W>, what: &Sent) -> Result<(), Unwritten>
-    ensures took { Took wire.old.own wire.old.peer (W.contents wire.old.writer) (W.contents wire.new.writer)
-        record { what = what.now; whole = is_ok result } }
+    ensures took { Took wire.old.own wire.old.peer wire.old.sequence (W.contents wire.old.writer)
+        (W.contents wire.new.writer) record { what = what.now; whole = is_ok result } }
+    // The sequence number is behind those of its segments, where all were taken.
+    ensures sequence { wire.new.sequence % 64
+        ≡ (wire.old.sequence + (if is_ok result then segments_in what.now else 0)) % 64 }
     ensures failed { W.has_failed wire.new.writer ≡ (is_err result || W.has_failed wire.old.writer) }
     ensures addresses { (wire.new.own ≡ wire.old.own) × (wire.new.peer ≡ wire.old.peer) }
 {

@@ -59,9 +59,11 @@ impl<W: Outgoing> Wire<W> {
             (take count (framed self.old.own self.old.peer (segments_of fragment.now (self.old.sequence % 64))))) }
         ensures failed { W.has_failed self.new.writer ≡ (is_err result || W.has_failed self.old.writer) }
         ensures addresses { (self.new.own ≡ self.old.own) × (self.new.peer ≡ self.old.peer) }
-        // The next sequence number is behind those of the segments.
+        // The next sequence number is behind those of the segments; where one of them wasn't taken whole, behind those before it.
         ensures sequence { OnOk result (self.new.sequence % 64
             ≡ (self.old.sequence + length (segments_of fragment.now (self.old.sequence % 64))) % 64) }
+        ensures kept { OnErr result ((taken : ℕ) × ((taken < length (segments_of fragment.now (self.old.sequence % 64)))
+            × (self.new.sequence % 64 ≡ (self.old.sequence + taken) % 64))) }
     {
         'segments: for segment in segments(fragment, self.sequence % 64) {
             let mut frame = [0; 292];

@@ -66,6 +66,22 @@ returns-in-Err-clause-front g c =
           ∙ ap (λ (segments : List (List ℕ)). take count (framed own peer segments))
           (ap (λ (rest : List (List ℕ)). before ++ rest) (sym c.in-Some.ensures.steps) ∙ (c.segments.invariant.segments ∙ all)))
           (appends-more _ _ _ _ _ c.segments.invariant.handed
-          (subst (λ (octets : List ℕ). Appends (g.W.Outgoing.contents c.segments.self.writer) (g.W.Outgoing.contents c.hand.new.self) (take handed.0 octets))
+          (subst (λ (octets : List ℕ). Appends (g.W.Outgoing.contents c.segments.self.writer)
+          (g.W.Outgoing.contents c.hand.new.self) (take handed.0 octets))
           framed_so handed.1)),
+    )
+
+pub returns-in-Err-clause-kept : goal.returns-in-Err-clause-kept
+returns-in-Err-clause-kept g c =
+    let before = c.segments.yielded in
+    let segment = c.in-Some.segment in
+    let all : c.into_iter-segment-iterator.result ≡ segments_of c.args.fragment.now (c.args.self.now.sequence % 64) =
+    search rules in
+    let is : before ++ segment ∷ c.next.new.self ≡ segments_of c.args.fragment.now (c.args.self.now.sequence % 64) =
+    ap (λ (rest : List (List ℕ)). before ++ rest) (sym c.in-Some.ensures.steps) ∙ (c.segments.invariant.segments ∙ all) in (
+      length before,
+      (
+        omega (arith, ap (λ (l : List (List ℕ)). length l) is, length-append before (segment ∷ c.next.new.self)),
+        c.segments.invariant.sequence,
+      ),
     )
