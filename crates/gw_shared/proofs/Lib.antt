@@ -7,3 +7,4 @@ pub mod Reaching
 pub mod Telling
 pub mod Numbers
 pub mod Worked
+pub mod Taping

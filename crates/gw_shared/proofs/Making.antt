@@ -11,7 +11,8 @@ use Rattle.gw_shared.specs.Turn.{Core, Pass, Steps}
 use Rattle.gw_shared.specs.Made.{Answer, AreMade, IsMadeInto, octets_given, octets_of}
 
 made-append : (setup : Setup) (step : Step) (old mid new : Core) (mine between after : Pass) (a b : List Answer)
-    → AreMade setup step old mid mine between a → AreMade setup step mid new between after b → AreMade setup step old new mine after (a ++ b)
+    → AreMade setup step old mid mine between a → AreMade setup step mid new between after b
+    → AreMade setup step old new mine after (a ++ b)
 made-append setup step old mid new mine between after [] b first more =
     subst (λ (c : Core). AreMade setup step c new mine after b) first.0
     (subst (λ (p : Pass). AreMade setup step mid new p after b) first.1 more)

@@ -7,3 +7,4 @@ pub mod Told
 pub mod Roles
 pub mod Example
 pub mod Tried
+pub mod Taped

@@ -1,11 +1,13 @@
-//! Who may make which calls, and how many, by examples.
-ghost use Rattle.std.specs.Prelude.{◌≡◌, [], ◌∷◌, Ok};
+//! Who may make which calls, and how many, and what the recorder keeps of them, by examples.
+ghost use Rattle.std.specs.Prelude.{◌≡◌, [], ◌∷◌, Ok, Some};
+ghost use Rattle.gw_steps.specs.State.{Hub};
 ghost use Rattle.gw_steps.specs.declared.step.Step.TheVariants as steps;
 ghost use Rattle.gw_steps.specs.declared.step.Reply.TheVariants as replies;
-ghost use Rattle.gw_shared.specs.Example.{left};
+ghost use Rattle.gw_shared.specs.Example.{left, on_tape};
 ghost use Rattle.gw_shared.specs.Pumping.{MayGoOn};
 ghost use Rattle.gw_shared.specs.Reached.{entry};
 ghost use Rattle.gw_shared.specs.Roles.{KeepsRoles, MayMake};
+ghost use Rattle.gw_shared.specs.Taped.{CountsEach, HasNewest};
 ghost use Rattle.gw_shared.specs.Turn.{last_call, Pass};
 ghost use Rattle.gw_shared.specs.declared.pumped.Pumped.TheVariants.{More};
 
@@ -31,4 +33,16 @@ pub fn counted_by_64_bits()
 /// A run of pumps that made no call, and gave nothing, has ended: it isn't told as one behind which there may be more.
 pub fn pumps_get_on()
     ensures { (p : Pass) → MayGoOn p p [] More → ⊥ }
+{}
+
+/// Actor 1 made a tick, and then actor 0 one. The tape has the newer one, of actor 0 and of no other; and of each one call is counted.
+pub fn calls_are_taped()
+    ensures newest { (hub : Hub) → HasNewest (Some (on_tape hub 0)) ((0, entry (steps.Tick 5) (Ok (replies.Ticked 0)))
+        ∷ (1, entry (steps.Tick 2) (Ok (replies.Ticked 0))) ∷ []) }
+    ensures other { (hub : Hub) → HasNewest (Some (on_tape hub 1)) ((0, entry (steps.Tick 5) (Ok (replies.Ticked 0)))
+        ∷ (1, entry (steps.Tick 2) (Ok (replies.Ticked 0))) ∷ []) → ⊥ }
+    ensures counted { CountsEach (1 ∷ 1 ∷ []) ((0, entry (steps.Tick 5) (Ok (replies.Ticked 0)))
+        ∷ (1, entry (steps.Tick 2) (Ok (replies.Ticked 0))) ∷ []) }
+    ensures miscounted { CountsEach (2 ∷ 0 ∷ []) ((0, entry (steps.Tick 5) (Ok (replies.Ticked 0)))
+        ∷ (1, entry (steps.Tick 2) (Ok (replies.Ticked 0))) ∷ []) → ⊥ }
 {}

@@ -8,6 +8,7 @@ ghost use Rattle.gw_shared.specs.Made.{IsMadeInto};
 ghost use Rattle.one_log.specs.Follows.{Follows};
 ghost use Rattle.gw_shared.specs.Reached.{entry, IsFirst, IsReached};
 ghost use Rattle.gw_shared.specs.Roles.{MayMake};
+ghost use Rattle.gw_shared.specs.Taped.{IsOfHistory};
 ghost use Rattle.gw_shared.specs.Pumping.{GoesOn, IsPumpedNext, IsPumpedRun, MayGoOn};
 ghost use Rattle.gw_shared.specs.Turn.{last_call, pass_at, pass_behind, Answers, IsMadeReady, Steps};
 
@@ -47,6 +48,7 @@ impl<L: Course, M: Machine> Model for Core<L, M> {
     ghost use Rattle.gw_record.specs.Recording.{Replays};
     ghost use Rattle.gw_shared.specs.Reached.{IsReached};
     ghost use Rattle.gw_shared.specs.Roles.{KeepsRoles};
+    ghost use Rattle.gw_shared.specs.Taped.{IsOfHistory};
     ghost use Rattle.gw_shared.specs.Turn.{Core as Seen};
 
     ghost Value = { Seen };
@@ -54,10 +56,12 @@ impl<L: Course, M: Machine> Model for Core<L, M> {
     ghost view = { λ c. record { hub = M.seen c.machine; recording = c.recorder; past = c.head.log; made = c.made } };
 
     // The machine is what the recorder's tape replays to, and came from a run of as many steps as calls were made; all
-    // calls are counted in the book, and by actor, and each was made by an actor that may.
+    // calls are counted in the book, and by actor, and each was made by an actor that may. What the recorder keeps is of that run: its
+    // newest calls, and how many each actor made.
     ghost invariant = { λ c. (c.made ≡ c.book.total) × (length c.recorder.counts ≡ L.parts)
         × (sum c.recorder.counts ≡ c.made) × Replays c.recorder.tape (M.seen c.machine)
-        × IsReached L.setup (M.seen c.machine) c.head.log c.made × KeepsRoles L.roles c.head.log };
+        × IsReached L.setup (M.seen c.machine) c.head.log c.made × KeepsRoles L.roles c.head.log
+        × IsOfHistory c.recorder c.head.log };
 }
 
 impl<L: Course, M: Machine> Core<L, M> {
@@ -250,9 +254,11 @@ impl<L: Course, M: Machine> Core<L, M> {
         (self.made, reply)
     }
 
-    /// Tells a proof what a core keeps of its hub: a run of as many steps as calls were made led to it. It does nothing.
+    /// Tells a proof what a core keeps of its hub: a run of as many steps as calls were made led to it, and what its recorder keeps
+    /// is of that run. It does nothing.
     pub fn attest(&self)
-        ensures { IsReached L.setup self.now.hub self.now.past self.now.made }
+        ensures reached { IsReached L.setup self.now.hub self.now.past self.now.made }
+        ensures recorded { IsOfHistory self.now.recording self.now.past }
     {
         let _made = self.made;
     }

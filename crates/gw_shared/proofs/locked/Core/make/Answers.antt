@@ -1,17 +1,19 @@
-use Rattle.std.proofs.Common.{◌≡◌, ◌∙◌, ℕ, ◌+◌, ◌<◌, ◌≤◌, ◌∷◌, length, ap, sym, subst, rules, arith}
+use Rattle.std.proofs.Common.{◌≡◌, ◌∙◌, ℕ, ◌+◌, ◌<◌, ◌≤◌, List, ◌∷◌, length, ap, sym, subst, rules, arith}
 use Rattle.std.specs.Prelude.{sum}
 use Rattle.gw_map.specs.Settings.{Setup}
 use Rattle.gw_steps.specs.declared.step.Step.{Step}
 use Rattle.gw_steps.specs.Runs.{Entry}
 use Rattle.one_log.specs.Follows.{Known, Whole}
 use Rattle.gw_steps.specs.Steps.{Allowed}
-use Rattle.gw_record.specs.Recording.{Recording, Replays}
+use Rattle.gw_record.specs.Recording.{Recording, Replays, noted}
 use Rattle.gw_record.proofs.Replaying.{replays-push}
 use Rattle.gw_shared.proofs.Counting.{length-raised, sum-raised}
-use Rattle.gw_shared.specs.Reached.{entry}
+use Rattle.gw_shared.specs.Reached.{Deed, entry}
 use Rattle.gw_shared.specs.Roles.{KeepsRoles, MayMake}
+use Rattle.gw_shared.specs.Taped.{IsOfHistory}
 use Rattle.gw_shared.specs.Turn.{Pass}
 use Rattle.gw_shared.proofs.Reaching.{reached_then}
+use Rattle.gw_shared.proofs.Taping.{noted_of}
 use Rattle.gw_shared.proofs.Telling.{told_then}
 use Rattle.gw_shared.proofs.locked.Core.make.Goals as goal
 
@@ -27,7 +29,10 @@ invariant_of-self g c =
     let added =
     ap (λ (w : Whole Entry). w.log) c.add-made.ensures.added
     ∙ ap (λ (lane : ℕ). (lane, entry c.args.step c.step_telling-reply.result) ∷ c.self.inside.head.log) c.pass.invariant.2 in
-    let within : c.pass.inside.actor < length counts = omega (arith, actors, mine) in (
+    let within : c.pass.inside.actor < length counts = omega (arith, actors, mine) in
+    let mine_is = c.pass.inside.actor in
+    let reply = c.step_telling-reply.result in
+    let now : List Deed = (mine_is, entry c.args.step reply) ∷ c.self.inside.head.log in (
       omega (arith, c.add.ensures.total, c.audit.ensures.total, kept.0),
       ap (λ (r : Recording). length r.counts) c.note.ensures ∙ (length-raised _ _ ∙ kept.1),
       ap (λ (r : Recording). sum r.counts) c.note.ensures ∙ (sum-raised _ _ within ∙ ap (λ (n : ℕ). n + 1) kept.2),
@@ -37,12 +42,16 @@ invariant_of-self g c =
           c.step_telling-reply.ensures.step)
           c.step_telling-reply.ensures.setup),
       reached_then g.L.Course.setup old new c.self.inside.head.log c.add-made.new.self.log c.self.inside.made
-          c.pass.inside.actor c.args.step c.step_telling-reply.result kept.4 c.step_telling-reply.ensures.step c.step_telling-reply.ensures.sound c.attest.ensures
-          c.step_telling-reply.ensures.setup added,
+          c.pass.inside.actor c.args.step c.step_telling-reply.result kept.4 c.step_telling-reply.ensures.step
+          c.step_telling-reply.ensures.sound c.attest.ensures c.step_telling-reply.ensures.setup added,
       subst (KeepsRoles g.L.Course.roles) (sym added) (
         subst (λ (p : Pass). MayMake g.L.Course.roles p.actor c.args.step) (sym c.pass.view_is) c.requires.may,
         kept.5,
       ),
+      subst (IsOfHistory c.note.new.self) (sym added)
+          (subst (λ (r : Recording). IsOfHistory r now) (sym c.note.ensures)
+          (subst (λ (s : Step). IsOfHistory (noted c.self.inside.recorder mine_is c.made.inside.step reply) ((mine_is, entry s reply) ∷ c.self.inside.head.log))
+          moved (noted_of c.self.inside.recorder c.self.inside.head.log mine_is c.made.inside.step reply kept.6 within))),
     )
 
 pub invariant_of-pass : goal.invariant_of-pass

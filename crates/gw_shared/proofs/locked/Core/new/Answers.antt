@@ -1,9 +1,11 @@
-use Rattle.std.proofs.Common.{◌≡◌, length, sym, subst, rules, arith}
+use Rattle.std.proofs.Common.{◌≡◌, ◌∙◌, ℕ, List, [], Option, length, ap, sym, subst, rules, arith}
 use Rattle.std.proofs.lemmas.Grind.{common_steps}
 use Rattle.std.specs.Prelude.{sum}
-use Rattle.gw_record.specs.Recording.{Replays}
+use Rattle.gw_record.specs.Recording.{Recording, Replays, Tape}
 use Rattle.gw_shared.specs.Roles.{KeepsRoles}
+use Rattle.gw_shared.specs.Taped.{IsOfHistory}
 use Rattle.gw_shared.proofs.Reaching.{reached_first}
+use Rattle.gw_shared.proofs.Taping.{first_of}
 use Rattle.gw_shared.proofs.locked.Core.new.Goals as goal
 
 pub invariant_of-result : goal.invariant_of-result
@@ -15,4 +17,13 @@ invariant_of-result g c =
     let none : sum recorder.counts ≡ 0 = grind (arith, common_steps, c.in_ok-recorder.ensures.counts) in
     let replays : Replays recorder.tape (g.M.Machine.seen c.args.machine) = search rules in
     let kept = subst (KeepsRoles g.L.Course.roles) (sym c.requires.head) tt in
-    (counted, actors, none, replays, reached_first _ _ _ c.requires.first c.requires.head, kept)
+    let recorded =
+    subst (IsOfHistory recorder) (sym c.requires.head)
+    (subst (λ (r : Recording). IsOfHistory r []) (sym (recording_is _ _ _ c.in_ok-recorder.ensures.counts c.in_ok-recorder.ensures.tape))
+    (first_of (g.M.Machine.seen c.args.machine) c.args.actors c.args.capacity)) in
+    (counted, actors, none, replays, reached_first _ _ _ c.requires.first c.requires.head, kept, recorded)
+  where
+    recording_is : (r : Recording) (counts : List ℕ) (tape : Option Tape) → r.counts ≡ counts → r.tape ≡ tape
+        → r ≡ record { counts = counts; tape = tape }
+    recording_is r counts tape same is =
+        ap (λ (l : List ℕ). record { counts = l; tape = r.tape }) same ∙ ap (λ (t : Option Tape). record { counts = counts; tape = t }) is
