@@ -281,6 +281,7 @@ fn serve_line<
     history: Opened<Sending>,
 ) -> (OutstationPasses<L>, Cause)
     requires book { history.seen.book ≡ N.book }
+    requires addresses { (N.own ≡ plan.now.own) × (N.peer ≡ plan.now.peer) }
     requires first { N.first ≡ None }
     requires failed { N.failed ≡ false }
 {

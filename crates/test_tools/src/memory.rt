@@ -181,6 +181,7 @@ pub fn read_alone<L: Course, N: LineCourse, R: Wait + AllocGlobal, I: Incoming, 
     gate: &G,
 ) -> (Pass<L>, WorkerEnd)
     requires book { history.seen.book ≡ N.book }
+    requires addresses { (N.own ≡ 1024) × (N.peer ≡ source.now.address) }
     requires first { (N.first ≡ None) × (N.failed ≡ false) }
 {
     let line: Line<Outstation, N> = Line::new(Outstation, MASTER, source.address, history);

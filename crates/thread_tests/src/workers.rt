@@ -169,6 +169,8 @@ fn serve_on<
     second: Opened<Sending>,
 ) -> Vec<Pass<L>>
     requires books { (first.seen.book ≡ M.book) × (second.seen.book ≡ N.book) }
+    requires own { (M.own ≡ 1024) × (N.own ≡ 1024) }
+    requires peers { (M.peer ≡ 1) × (N.peer ≡ 2) }
     requires first { (M.first ≡ None) × (N.first ≡ None) }
     requires failed { (M.failed ≡ false) × (N.failed ≡ false) }
     requires roles { L.roles ≡ anybody }
