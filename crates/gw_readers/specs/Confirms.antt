@@ -15,6 +15,7 @@ use Rattle.gw_ends.specs.declared.sent.Sending.{Sending}
 use Rattle.gw_ends.specs.Sent.{IsNew, is_cut_off}
 use Rattle.one_log.specs.Follows.{Known}
 use Rattle.gw_threads.specs.Calls.{AreCalls, Call, given_by}
+use Rattle.gw_readers.specs.declared.outstation_reading.Reading.{Reading}
 use Rattle.gw_threads.specs.Sends.{AreSent}
 
 -- a step is of a fragment of an outstation, or tells that it is lost
@@ -53,9 +54,9 @@ IsReaders sents.Status = Unit {0}
 IsReaders (sents.Confirm octets) = Unit {0}
 IsReaders (sents.Request request) = ⊥
 
--- all calls of the pass in that time were of fragments of the outstation, or told that it is lost; it sent no request; and the confirmations that the
--- worker sent on the line, in its history, are just those that its fragments were answered with, each once, in this order;
--- something that it sent wasn't taken whole, or all was
+-- all calls of the pass in that time were of fragments of the outstation, or told that it is lost; it sent no request; and the
+-- confirmations that the worker sent on the line, in its history, are just those that its fragments were answered with, each once, in
+-- this order; something that it sent wasn't taken whole, or all was
 pub record ReadsAll (setup : Setup) (outstation : ℕ) (mine after : Pass) (old new : Known Sending) (cut : Bool)
     : Type 0 where
   pub calls : List Call
@@ -66,6 +67,10 @@ pub record ReadsAll (setup : Setup) (outstation : ℕ) (mine after : Pass) (old 
   pub only : AllByRecursion (λ (s : Sending). IsReaders s.what) sends
   pub same : confirmations_sent sends ≡ given_by confirmation_given calls
   pub cut_is : is_cut_off sends ≡ cut
+
+-- a reader went on so, from what it was to what it is
+abbrev pub ReadsFurther : {L N S R W C G : Type 0} → Setup → Reading L N S R W C G → Reading L N S R W C G → Bool → Type 0
+ReadsFurther setup old new cut = ReadsAll setup old.outstation old.pass new.pass old.front new.front cut
 
 -- and that is all that the worker sent since it joined the line
 abbrev pub ReadsOn : Setup → ℕ → Pass → Pass → Known Sending → Bool → Type 0

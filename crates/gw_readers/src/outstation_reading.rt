@@ -5,7 +5,7 @@ ghost use Rattle.dnp_receive.specs.Delivery.{response_at};
 ghost use Rattle.gw_ends.specs.Ends.{is_read_fault, is_write_fault, IsOfFrames, IsOfSilence, MayEndBetween};
 ghost use Rattle.gw_shared.specs.Turn.{Pass as Seen};
 ghost use Rattle.gw_threads.specs.Sends.{TellsOutstationLoss};
-ghost use Rattle.gw_readers.specs.Confirms.{confirmation_in, Confirms, ReadsAll, ReadsOn};
+ghost use Rattle.gw_readers.specs.Confirms.{confirmation_in, Confirms, ReadsFurther, ReadsOn};
 ghost use Rattle.gw_readers.specs.Heard.{Hears, HearsFrames, HearsOctets, HearsOf, HearsPiece, IsDrained};
 
 use crate::link_check::{LinkCheck, Look};
@@ -157,8 +157,7 @@ impl<
     ) -> WorkerEnd
         requires drained { IsDrained feed.old }
         ensures outstation { self.new.outstation ≡ self.old.outstation }
-        ensures confirmed { ReadsAll L.setup self.old.outstation self.old.pass self.new.pass self.old.front self.new.front
-            (is_write_fault (Some result)) }
+        ensures confirmed { ReadsFurther L.setup self.old self.new (is_write_fault (Some result)) }
         ensures heard { HearsOctets L.setup self.old.outstation self.old.pass self.new.pass receiver.old receiver.new
             feed.old feed.new (I.given input.old) (I.given input.new) (Some result) }
         ensures end { MayEndBetween result }
@@ -174,7 +173,7 @@ impl<
     }
 
     /// One piece. How the worker ends, if it does.
-    #[tactic(auto, using(gw_ends::proofs::Failed::reading_fails, gw_ends::proofs::Failed::frames_read, gw_ends::proofs::Failed::silence_reads, crate::proofs::Confirming::reads_none))]
+    #[tactic(auto, using(gw_ends::proofs::Failed::reader_ends, crate::proofs::Confirming::reads_none))]
     fn read<I: Incoming>(
         &mut self,
         feed: &mut LinkFeed,
@@ -184,8 +183,7 @@ impl<
     ) -> Option<WorkerEnd>
         requires drained { IsDrained feed.old }
         ensures outstation { self.new.outstation ≡ self.old.outstation }
-        ensures confirmed { ReadsAll L.setup self.old.outstation self.old.pass self.new.pass self.old.front self.new.front
-            (is_write_fault result) }
+        ensures confirmed { ReadsFurther L.setup self.old self.new (is_write_fault result) }
         ensures heard { HearsOctets L.setup self.old.outstation self.old.pass self.new.pass receiver.old receiver.new
             feed.old feed.new (I.given input.old) (I.given input.new) result }
         ensures end { IfSome result MayEndBetween }
@@ -239,8 +237,7 @@ impl<
     fn look(&mut self) -> Option<WorkerEnd>
         ensures outstation { self.new.outstation ≡ self.old.outstation }
         ensures pass { self.new.pass ≡ self.old.pass }
-        ensures confirmed { ReadsAll L.setup self.old.outstation self.old.pass self.new.pass self.old.front self.new.front
-            (is_write_fault result) }
+        ensures confirmed { ReadsFurther L.setup self.old self.new (is_write_fault result) }
         ensures end { IfSome result IsOfSilence }
     {
         let mut link = self.link.get();
@@ -261,8 +258,7 @@ impl<
     fn ask_status(&mut self) -> Option<WorkerEnd>
         ensures outstation { self.new.outstation ≡ self.old.outstation }
         ensures pass { self.new.pass ≡ self.old.pass }
-        ensures confirmed { ReadsAll L.setup self.old.outstation self.old.pass self.new.pass self.old.front self.new.front
-            (is_write_fault result) }
+        ensures confirmed { ReadsFurther L.setup self.old self.new (is_write_fault result) }
         ensures end { IfSome result IsOfSilence }
     {
         self.gate.at(self.pass.actor(), Place::BeforeWrite);
@@ -280,8 +276,7 @@ impl<
         piece: &[u8],
     ) -> Option<WorkerEnd>
         ensures outstation { self.new.outstation ≡ self.old.outstation }
-        ensures confirmed { ReadsAll L.setup self.old.outstation self.old.pass self.new.pass self.old.front self.new.front
-            (is_write_fault result) }
+        ensures confirmed { ReadsFurther L.setup self.old self.new (is_write_fault result) }
         ensures heard { HearsPiece L.setup self.old.outstation self.old.pass self.new.pass receiver.old receiver.new
             (feed.old ++ piece.now) feed.new result }
         ensures end { IfSome result IsOfFrames }
@@ -311,8 +306,7 @@ impl<
     #[tactic(auto, using(crate::proofs::Confirming::reads_none))]
     fn take_frame(&mut self, receiver: &mut Receiver, frame: &Frame) -> Option<WorkerEnd>
         ensures outstation { self.new.outstation ≡ self.old.outstation }
-        ensures confirmed { ReadsAll L.setup self.old.outstation self.old.pass self.new.pass self.old.front self.new.front
-            (is_write_fault result) }
+        ensures confirmed { ReadsFurther L.setup self.old self.new (is_write_fault result) }
         ensures heard { HearsFrames L.setup self.old.outstation self.old.pass self.new.pass receiver.old receiver.new
             (content frame.now ∷ []) result }
         ensures end { IfSome result IsOfFrames }
@@ -343,8 +337,7 @@ impl<
     fn answer_link(&mut self, reply: &Option<[u8; 10]>) -> Option<WorkerEnd>
         ensures outstation { self.new.outstation ≡ self.old.outstation }
         ensures pass { self.new.pass ≡ self.old.pass }
-        ensures confirmed { ReadsAll L.setup self.old.outstation self.old.pass self.new.pass self.old.front self.new.front
-            (is_write_fault result) }
+        ensures confirmed { ReadsFurther L.setup self.old self.new (is_write_fault result) }
         ensures end { IfSome result IsOfFrames }
     {
         match reply {
@@ -364,8 +357,7 @@ impl<
     fn take_fragment(&mut self, octets: Vec<u8>) -> Option<WorkerEnd>
         requires { length octets.items ≤ 2048 }
         ensures outstation { self.new.outstation ≡ self.old.outstation }
-        ensures confirmed { ReadsAll L.setup self.old.outstation self.old.pass self.new.pass self.old.front self.new.front
-            (is_write_fault result) }
+        ensures confirmed { ReadsFurther L.setup self.old self.new (is_write_fault result) }
         ensures heard { HearsOf L.setup self.old.pass self.new.pass
             (option_to_list (response_at self.old.outstation octets.items)) result }
         ensures end { IfSome result IsOfFrames }
@@ -400,8 +392,7 @@ impl<
     fn step(&mut self, response: Response) -> Option<WorkerEnd>
         requires own { response.outstation ≡ self.old.outstation }
         ensures outstation { self.new.outstation ≡ self.old.outstation }
-        ensures confirmed { ReadsAll L.setup self.old.outstation self.old.pass self.new.pass self.old.front self.new.front
-            (is_write_fault result) }
+        ensures confirmed { ReadsFurther L.setup self.old self.new (is_write_fault result) }
         ensures heard { HearsOf L.setup self.old.pass self.new.pass (response ∷ []) result }
         ensures end { IfSome result IsOfFrames }
     {
@@ -426,8 +417,7 @@ impl<
     fn ask(&mut self, response: Response) -> Option<WorkerEnd>
         requires own { response.outstation ≡ self.old.outstation }
         ensures outstation { self.new.outstation ≡ self.old.outstation }
-        ensures confirmed { ReadsAll L.setup self.old.outstation self.old.pass self.new.pass self.old.front self.new.front
-            (is_write_fault result) }
+        ensures confirmed { ReadsFurther L.setup self.old self.new (is_write_fault result) }
         ensures heard { HearsOf L.setup self.old.pass self.new.pass (response ∷ []) result }
         ensures end { IfSome result IsOfFrames }
     {
