@@ -1,0 +1,6 @@
+pub mod Coming
+pub mod Requests
+pub mod Offers
+pub mod Asleep
+pub mod Late
+pub mod Replied

@@ -1,0 +1,3 @@
+pub mod Rousing
+pub mod Lateness
+pub mod Replies
