@@ -1,3 +1,4 @@
 pub mod Rousing
 pub mod Lateness
 pub mod Replies
+pub mod Example
