@@ -4,3 +4,5 @@ pub mod Offers
 pub mod Asleep
 pub mod Late
 pub mod Replied
+pub mod Ending
+pub mod Refused

@@ -9,6 +9,7 @@ use Rattle.gw_steps.specs.Example.{fragment_of, response}
 use Rattle.gw_steps.specs.Runs.{Entry, state_after, unless_fault}
 use Rattle.gw_fates.specs.Example.{made}
 use Rattle.gw_fates.specs.Fates.{effects_by}
+use Rattle.gw_orders.specs.Sessions.{ends_session}
 use Rattle.gw_told.specs.Rousing.{becomes_due, becomes_offered}
 use Rattle.gw_told.specs.Lateness.{is_late_by}
 use Rattle.gw_told.specs.Replies.{ended_by_reply}
@@ -57,6 +58,14 @@ replied_in (e ∷ past) = unless_fault None ended_by_reply e.reply
 
 abbrev pub replied : List Step → Option Ended
 replied ss = replied_in (made ss)
+
+-- it replied that it ends the session of the client
+abbrev pub ends_in : List Entry → Bool
+ends_in [] = false
+ends_in (e ∷ past) = unless_fault false (λ reply. ends_session e.step reply 0) e.reply
+
+abbrev pub closed_by_tick : List Step → Bool
+closed_by_tick ss = ends_in (made ss)
 
 -- ---- steps
 

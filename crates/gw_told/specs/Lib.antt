@@ -1,4 +1,6 @@
 pub mod Rousing
 pub mod Lateness
 pub mod Replies
+pub mod Endings
+pub mod Refusals
 pub mod Example

@@ -2,9 +2,10 @@
 ghost use Rattle.std.specs.Prelude.{◌≡◌, [], ◌∷◌, ◌++◌, false, map, Some, None, true};
 ghost use Rattle.gw_steps.specs.Example.{outstation_down, outstation_up, poll, pump};
 ghost use Rattle.gw_told.specs.Replies.{ended_by_fate};
-ghost use Rattle.gw_fates.specs.Example.{answers, done, refused, sets};
+ghost use Rattle.gw_fates.specs.Example.{answers, done, refused, sets, stops};
 ghost use Rattle.gw_told.specs.Example.{
   answer,
+  closed_by_tick,
   is_client_told,
   is_late,
   is_newly_due,
@@ -54,4 +55,16 @@ pub fn replies_by_example()
     // After a SELECT that succeeded the order goes on.
     ensures selected { replied (sets 0 ∷ poll ∷ answers 0xC0 0 ∷ []) ≡ None }
     ensures none { (told (sets 0 ∷ poll ∷ answers 0xC0 0 ∷ [])).ended ≡ [] }
+{}
+
+/// Sessions that end: a client is told of the end of its own.
+#[tactic(auto, unfolding(iec_command::specs::Commands::command_of, dnp_objects::specs::Headers::headers_from, dnp_objects::specs::Library::object_of))]
+pub fn endings_by_example()
+    // With its pumps done nothing is left to be put out; STOPDT act ends the session.
+    ensures stands { is_client_told (pump ∷ poll ∷ []) ≡ false }
+    ensures stops { is_client_told (pump ∷ stops ∷ []) ≡ true }
+    // What was sent is to be acknowledged in 15 seconds: then a tick closes the connection.
+    ensures in_time { closed_by_tick (pump ∷ done ++ pump ∷ pump ∷ tick 14999 ∷ []) ≡ false }
+    ensures passed { closed_by_tick (pump ∷ done ++ pump ∷ pump ∷ tick 15000 ∷ []) ≡ true }
+    ensures told { is_client_told (pump ∷ done ++ pump ∷ pump ∷ tick 15000 ∷ []) ≡ true }
 {}

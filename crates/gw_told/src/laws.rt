@@ -8,6 +8,8 @@ ghost use Rattle.gw_history.specs.Premises.{IsSoundRun};
 ghost use Rattle.gw_orders.specs.Bonds.{HasShortIndex};
 ghost use Rattle.gw_told.specs.Rousing.{LeavesNobodyAsleep};
 ghost use Rattle.gw_told.specs.Lateness.{TellsLate};
+ghost use Rattle.gw_told.specs.Endings.{TellsEnds};
+ghost use Rattle.gw_told.specs.Refusals.{TellsReason};
 ghost use Rattle.gw_told.specs.Replies.{RepliesFate};
 
 /// At each point of a run: the last step told of each outstation to which a request is due now and wasn't without the step,
@@ -29,4 +31,17 @@ pub fn unanswered_are_late()
 pub fn replies_tell_fates()
     ensures { (setup : Setup) (past : List Entry) → IsSoundRun setup past → AllByRecursion HasShortIndex setup.controls
         → AtEach (RepliesFate setup) past }
+{}
+
+/// At each point of a run: where the last step ended the session of a client, it told of that client, and how many news were
+/// dropped in the session. Of dropped news it told no other. Which sessions a step ends its reply tells: that of a tick has
+/// a bit for each client that t1 closes.
+pub fn ended_sessions_are_told()
+    ensures { (setup : Setup) (past : List Entry) → IsSoundRun setup past → AtEach (TellsEnds setup) past }
+{}
+
+/// At each point of a run: where the last step judged a client's command for a control, it told a reason exactly where the
+/// command is confirmed negatively.
+pub fn negatives_have_reasons()
+    ensures { (setup : Setup) (past : List Entry) → IsSoundRun setup past → AtEach (TellsReason setup) past }
 {}
