@@ -17,6 +17,7 @@ ghost use Rattle.gw_orders.specs.Bonds.{Bonds, HasShortIndex};
 ghost use Rattle.gw_orders.specs.ToldOnce.{TellsOnce};
 ghost use Rattle.gw_fates.specs.Fates.{HasOneFateEach};
 ghost use Rattle.gw_fates.specs.Told.{TellsFates};
+ghost use Rattle.gw_told.specs.Tells.{Tells};
 ghost use Rattle.gw_orders.specs.Outcomes.{TellsDue};
 ghost use Rattle.gw_orders.specs.Commands.{AnswersCommands};
 ghost use Rattle.gw_orders.specs.Requests.{Requests};
@@ -179,6 +180,10 @@ impl Hub {
     ///   its outstation and its client, or it is on its way; no end is told of anything else.
     /// - `told`: a client is told done of an order exactly where its fate is that the outstation did it; nobody is told of
     ///   an order whose session has ended.
+    /// - `tells`: what steps tell besides their replies is so: nobody to whom a step brings something to do is left
+    ///   asleep; a request is told unanswered exactly where its time has passed by the history; what the reply to a
+    ///   fragment says of an order is its fate; ends of sessions are told with what was dropped in them, and a reason
+    ///   exactly where a command is confirmed negatively.
     /// - `commands`: an ASDU that is taken is a command for a control exactly where it spells one for this station, and
     ///   for a control of its type. It is confirmed, and an execute accepted, exactly where the history permits it: by
     ///   its value, who selected the control, and whether the outstation is up and how many orders wait there.
@@ -210,6 +215,7 @@ impl Hub {
         ensures due { IfOk result (λ run. AtEach (TellsDue settings) (history [] steps.items run.1.items)) }
         ensures fates { IfOk result (λ run. AtEach (HasOneFateEach settings) (history [] steps.items run.1.items)) }
         ensures told { IfOk result (λ run. AtEach (TellsFates settings) (history [] steps.items run.1.items)) }
+        ensures tells { IfOk result (λ run. AtEach (Tells settings) (history [] steps.items run.1.items)) }
         ensures commands { IfOk result (λ run.
             AtEach (AnswersCommands settings) (history [] steps.items run.1.items)) }
         ensures requests { IfOk result (λ run. AtEach (Requests settings) (history [] steps.items run.1.items)) }

@@ -12,6 +12,7 @@ use Rattle.gw_orders.proofs.CommandsTold.{commands_answered}
 use Rattle.gw_orders.proofs.RequestPlaces.{requests_due}
 use Rattle.gw_fates.proofs.Runs.{fates}
 use Rattle.gw_fates.proofs.Tells.{fates_told}
+use Rattle.gw_told.proofs.Together.{steps_tell}
 use Rattle.gw_laws.proofs.Promised.{keeps_promises}
 use Rattle.gw_laws.proofs.Kept.{keeps_connections}
 use Rattle.gw_shared.specs.declared.close.Closed.{Closed}
@@ -29,6 +30,7 @@ keeps_all setup past run indices =
       due = told_when_due setup past run indices;
       fates = fates setup past run;
       told = fates_told setup past run;
+      tells = steps_tell setup past run indices;
       commands = commands_answered setup past run indices;
       requests = requests_due setup past run indices;
       connections = keeps_connections setup past run;

@@ -6,6 +6,7 @@ use Rattle.gw_steps.specs.Runs.{Entry, state_after, AtEach, IsRun}
 use Rattle.gw_shared.specs.Reached.{Deed, entries_of}
 use Rattle.gw_fates.specs.Fates.{HasOneFateEach}
 use Rattle.gw_fates.specs.Told.{TellsFates}
+use Rattle.gw_told.specs.Tells.{Tells}
 use Rattle.gw_laws.specs.Connections.{Connections}
 use Rattle.gw_laws.specs.Promises.{Promises}
 use Rattle.gw_orders.specs.Bonds.{Bonds}
@@ -23,6 +24,7 @@ pub record KeepsAll (setup : Setup) (past : List Entry) : Type 0 where
   pub due : AtEach (TellsDue setup) past
   pub fates : AtEach (HasOneFateEach setup) past
   pub told : AtEach (TellsFates setup) past
+  pub tells : AtEach (Tells setup) past
   pub commands : AtEach (AnswersCommands setup) past
   pub requests : AtEach (Requests setup) past
   pub connections : AtEach (Connections setup) past

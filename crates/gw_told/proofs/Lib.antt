@@ -6,3 +6,4 @@ pub mod Late
 pub mod Replied
 pub mod Ending
 pub mod Refused
+pub mod Together

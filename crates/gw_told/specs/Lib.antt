@@ -3,4 +3,5 @@ pub mod Lateness
 pub mod Replies
 pub mod Endings
 pub mod Refusals
+pub mod Tells
 pub mod Example

@@ -13,6 +13,7 @@ use Rattle.gw_orders.proofs.CommandsTold.{commands_answered}
 use Rattle.gw_orders.proofs.RequestPlaces.{requests_due}
 use Rattle.gw_fates.proofs.Runs.{fates}
 use Rattle.gw_fates.proofs.Tells.{fates_told}
+use Rattle.gw_told.proofs.Together.{steps_tell}
 use Rattle.gw_laws.proofs.Promised.{keeps_promises}
 use Rattle.gw_laws.proofs.Kept.{keeps_connections}
 use Rattle.gw_hub.proofs.hub.Hub.run.Goals as goal
@@ -68,6 +69,12 @@ returns-clause-told c =
     fates_told c.args.settings _
     (run_of _ _ _ c.args.steps.items c.in_ok-replies.replies.items c.in_ok-hub.ensures.setup c.deref.ensures.value
     c.in_ok-replies.ensures.run)
+
+pub returns-clause-tells : goal.returns-clause-tells
+returns-clause-tells c =
+    steps_tell c.args.settings _
+    (run_of _ _ _ c.args.steps.items c.in_ok-replies.replies.items c.in_ok-hub.ensures.setup c.deref.ensures.value
+    c.in_ok-replies.ensures.run) c.in_ok-hub.ensures.indices
 
 pub returns-clause-commands : goal.returns-clause-commands
 returns-clause-commands c =
