@@ -9,7 +9,8 @@
 
 mod listing;
 mod name;
+mod pieces;
 mod run;
 
-pub use name::MOST_PIECES;
-pub use run::{PieceFiles, RunUnderWay};
+pub use pieces::{FolderPieces, Keeping, begin_run};
+pub use run::PieceFiles;

@@ -1,6 +1,6 @@
 //! What keeps the gateway from serving.
 
-use crate::failure_of_file::FileFailure;
+use gw_commands::FileFailure;
 use gw_journal::Failure;
 use gw_text::Plain;
 use std::io::ErrorKind;

@@ -1,17 +1,16 @@
 //! `gateway run`.
 
-use crate::USAGE;
-use crate::lists::{Named, Unlisted, refuse_list};
+use crate::about::about_run;
 use crate::obstacle::{Obstacle, failure_at};
-use crate::record_folder::{FolderPieces, Keeping, about_run, begin_run};
 use crate::recording::{Recording, tell_end};
-use crate::refusal::{complain, refuse_file, refuse_for};
-use crate::settings_file::{BadFile, read_octets};
 use crate::shown::Shown;
 use gw_capture::{Capture, OnePiece, Pieces};
 use gw_checker::{Warning, read_settings, warnings_of};
 use gw_command_line::{RunOptions, VERSION};
-use gw_folder::PieceFiles;
+use gw_commands::{
+    BadFile, Named, USAGE, Unlisted, complain, read_octets, refuse_file, refuse_for, refuse_list,
+};
+use gw_folder::{FolderPieces, Keeping, PieceFiles, begin_run};
 use gw_journal::{Doubt, Journal, JournalEvent};
 use gw_map::Settings;
 use gw_model::Memory;
@@ -278,7 +277,7 @@ fn folder_files<'r, 'a>(
     wall: u64,
     source: Source<'_>,
     asked: &RunOptions<'_>,
-) -> Result<(PieceFiles, FolderPieces<'r>), Unserved<'a>> {
+) -> Result<(PieceFiles, FolderPieces<'r, HostRuntime>), Unserved<'a>> {
     let keeping = Keeping {
         of_file: u64::from(asked.record_size),
         of_runs: asked.record_keep.map(u64::from),

@@ -1,8 +1,8 @@
 //! Lists of points and controls: the settings of one, that of settings, and the names that one gives.
 
-use crate::USAGE;
-use crate::refusal::{REFUSED, complain, refuse_file, refuse_for, refuse_octets};
+use crate::refusal::{REFUSED, USAGE, complain, refuse_file, refuse_for, refuse_octets};
 use crate::settings_file::{BadFile, read_octets};
+use crate::system::System;
 use gw_checker::{Unusable, read_settings};
 use gw_map::Settings;
 use gw_points::{
@@ -47,8 +47,8 @@ pub struct Named {
 
 impl Named {
     /// What a list calls them; nothing without one.
-    pub fn read<'a>(
-        rt: &HostRuntime,
+    pub fn read<'a, S: System>(
+        rt: &S,
         settings: &Settings,
         file: Option<&'a str>,
     ) -> Result<Named, Unlisted<'a>> {
@@ -77,8 +77,8 @@ impl Named {
 }
 
 /// `gateway points`; gives the status.
-pub fn points<'a>(
-    rt: &HostRuntime,
+pub fn points<'a, S: System>(
+    rt: &S,
     file: &'a str,
     site: Option<&'a str>,
     csv: bool,
@@ -99,7 +99,7 @@ pub fn points<'a>(
 }
 
 /// Writes a text on standard output; gives the status.
-fn write_text(rt: &HostRuntime, text: &[u8]) -> io::Result<u8> {
+fn write_text<S: System>(rt: &S, text: &[u8]) -> io::Result<u8> {
     let mut writer = io::writer(rt);
     if writer.write_all(text).is_err() || writer.flush().is_err() {
         return Ok(REFUSED);
@@ -108,8 +108,8 @@ fn write_text(rt: &HostRuntime, text: &[u8]) -> io::Result<u8> {
 }
 
 /// The list of a file, for these settings. Where it is to be `whole`, it may have nothing that isn't of their outstations.
-fn list_in<'a>(
-    rt: &HostRuntime,
+fn list_in<'a, S: System>(
+    rt: &S,
     settings: &Settings,
     file: &'a str,
     whole: bool,
@@ -123,7 +123,7 @@ fn list_in<'a>(
 }
 
 /// The octets of a settings file, and the settings.
-fn read_site<'a>(rt: &HostRuntime, file: &'a str) -> Result<(Vec<u8>, Settings), Unlisted<'a>> {
+fn read_site<'a, S: System>(rt: &S, file: &'a str) -> Result<(Vec<u8>, Settings), Unlisted<'a>> {
     let octets = read_octets(rt, file)?;
     match read_settings(rt.alloc(), octets.as_slice()) {
         Ok(settings) => Ok((octets, settings)),
@@ -132,8 +132,8 @@ fn read_site<'a>(rt: &HostRuntime, file: &'a str) -> Result<(Vec<u8>, Settings),
 }
 
 /// The list of a settings file, with the names of another list.
-fn list_of<'a>(
-    rt: &HostRuntime,
+fn list_of<'a, S: System>(
+    rt: &S,
     file: &'a str,
     names: Option<&'a str>,
 ) -> Result<Vec<u8>, Unlisted<'a>> {
@@ -149,8 +149,8 @@ fn list_of<'a>(
 
 /// The settings of a list, for the station and the outstations of a settings file: a text that reads back as the list's
 /// rows.
-fn settings_of_list<'a>(
-    rt: &HostRuntime,
+fn settings_of_list<'a, S: System>(
+    rt: &S,
     file: &'a str,
     site: &'a str,
 ) -> Result<Vec<u8>, Unlisted<'a>> {
@@ -166,7 +166,7 @@ fn settings_of_list<'a>(
 }
 
 /// Writes why a list can't be used, with what stands in front of each sentence; gives the status.
-pub fn refuse_list(rt: &HostRuntime, front: &str, why: &Unlisted<'_>) -> io::Result<u8> {
+pub fn refuse_list<S: System>(rt: &S, front: &str, why: &Unlisted<'_>) -> io::Result<u8> {
     match why {
         Unlisted::File(bad) => refuse_file(rt, front, bad),
         Unlisted::List(BadList::Refused(faults)) => refuse_faults(rt, front, faults),
@@ -181,7 +181,7 @@ pub fn refuse_list(rt: &HostRuntime, front: &str, why: &Unlisted<'_>) -> io::Res
 }
 
 /// Writes all that is wrong with a list; gives the status.
-fn refuse_faults(rt: &HostRuntime, front: &str, faults: &Told<ListFault>) -> io::Result<u8> {
+fn refuse_faults<S: System>(rt: &S, front: &str, faults: &Told<ListFault>) -> io::Result<u8> {
     let status = refuse_for(rt, "list")?;
     for fault in faults.first() {
         complain(rt, front, fault);

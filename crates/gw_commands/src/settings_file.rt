@@ -1,6 +1,7 @@
 //! Settings files, and why one can't be used.
 
 use crate::failure_of_file::FileFailure;
+use crate::system::System;
 use gw_checker::{LONGEST_FILE, Unusable, read_settings};
 use gw_journal::Failure;
 use gw_map::Settings;
@@ -42,7 +43,7 @@ impl Unread {
 }
 
 /// The octets of a settings file.
-pub fn read_octets<'a>(rt: &HostRuntime, file: &'a str) -> Result<Vec<u8>, BadFile<'a>> {
+pub fn read_octets<'a, S: System>(rt: &S, file: &'a str) -> Result<Vec<u8>, BadFile<'a>> {
     match read_front(rt, file) {
         Ok(octets) if octets.len() as u64 <= LONGEST_FILE => Ok(octets),
         Ok(_octets) => Err(BadFile::Unread(file, Unread::TooLong)),
@@ -54,7 +55,7 @@ pub fn read_octets<'a>(rt: &HostRuntime, file: &'a str) -> Result<Vec<u8>, BadFi
 }
 
 /// The octets of a file: as many as a settings file may have, and one more.
-fn read_front(rt: &HostRuntime, file: &str) -> io::Result<Vec<u8>> {
+fn read_front<S: System>(rt: &S, file: &str) -> io::Result<Vec<u8>> {
     let mut octets = Vec::new(rt.alloc());
     let file = File::open(rt, file)?;
     let mut front = file.take(LONGEST_FILE + 1);
@@ -63,7 +64,7 @@ fn read_front(rt: &HostRuntime, file: &str) -> io::Result<Vec<u8>> {
 }
 
 /// The settings of a file.
-pub fn settings_of<'a>(rt: &HostRuntime, file: &'a str) -> Result<Settings, BadFile<'a>> {
+pub fn settings_of<'a, S: System>(rt: &S, file: &'a str) -> Result<Settings, BadFile<'a>> {
     let octets = read_octets(rt, file)?;
     match read_settings(rt.alloc(), octets.as_slice()) {
         Ok(settings) => Ok(settings),

@@ -2,6 +2,7 @@
 //! the sentence can't be written there is nobody to tell, and the rest is as ever.
 
 use crate::settings_file::BadFile;
+use crate::system::System;
 use gw_checker::{Unusable, explain};
 use std::fmt::Display;
 use std::{io, str};
@@ -9,20 +10,23 @@ use std::{io, str};
 /// The status of a program that was refused something.
 pub const REFUSED: u8 = 1;
 
+/// The status of a command line that asks for nothing.
+pub const USAGE: u8 = 2;
+
 /// Writes what was refused; gives the status.
-pub fn refuse_for(rt: &HostRuntime, what: &str) -> io::Result<u8> {
+pub fn refuse_for<S: System>(rt: &S, what: &str) -> io::Result<u8> {
     println!(rt; "refused {what}")?;
     Ok(REFUSED)
 }
 
 /// Writes why settings can't be used; gives the status.
-pub fn refuse(rt: &HostRuntime, why: &Unusable) -> io::Result<u8> {
+pub fn refuse<S: System>(rt: &S, why: &Unusable) -> io::Result<u8> {
     println!(rt; "refused {why}")?;
     Ok(REFUSED)
 }
 
 /// Writes why a settings file can't be used, and a sentence on it, with what stands in front of that; gives the status.
-pub fn refuse_file(rt: &HostRuntime, front: &str, bad: &BadFile<'_>) -> io::Result<u8> {
+pub fn refuse_file<S: System>(rt: &S, front: &str, bad: &BadFile<'_>) -> io::Result<u8> {
     match bad {
         BadFile::Unread(_, why) => {
             let status = refuse(rt, &why.unusable())?;
@@ -34,8 +38,8 @@ pub fn refuse_file(rt: &HostRuntime, front: &str, bad: &BadFile<'_>) -> io::Resu
 }
 
 /// Writes why the octets of a settings file can't be used, and a sentence on it; gives the status.
-pub fn refuse_octets(
-    rt: &HostRuntime,
+pub fn refuse_octets<S: System>(
+    rt: &S,
     front: &str,
     octets: &[u8],
     why: &Unusable,
@@ -43,14 +47,19 @@ pub fn refuse_octets(
     let status = refuse(rt, why)?;
     let mut sentence = Vec::new(rt.alloc());
     if explain(rt.alloc(), octets, &mut sentence).is_ok() && !sentence.is_empty() {
-        if let Ok(text) = str::from_utf8(sentence.as_slice()) {
-            let _ = eprint!(rt; "{front}{text}");
-        }
+        tell_texts(rt, front, sentence.as_slice());
     }
     Ok(status)
 }
 
+/// Writes lines on standard error, with what stands in front of them.
+pub fn tell_texts<S: System>(rt: &S, front: &str, lines: &[u8]) {
+    if let Ok(text) = str::from_utf8(lines) {
+        let _ = eprint!(rt; "{front}{text}");
+    }
+}
+
 /// Writes a sentence on standard error, with what stands in front of it.
-pub fn complain<D: Display>(rt: &HostRuntime, front: &str, sentence: &D) {
+pub fn complain<S: System, D: Display>(rt: &S, front: &str, sentence: &D) {
     let _ = eprintln!(rt; "{front}{sentence}");
 }

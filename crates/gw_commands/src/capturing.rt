@@ -3,6 +3,7 @@
 use crate::failure_of_file::FileFailure;
 use crate::refusal::{REFUSED, complain, refuse_file, refuse_for};
 use crate::settings_file::settings_of;
+use crate::system::System;
 use gw_map::Settings;
 use gw_pcap::{Captured, Stop, capture};
 use gw_text::Plain;
@@ -29,7 +30,7 @@ enum Unmade<'a> {
 }
 
 /// `gateway pcap`, from standard input to a file that is made; gives the status.
-pub fn pcap(rt: &HostRuntime, file: &str, out: &str) -> io::Result<u8> {
+pub fn pcap<S: System>(rt: &S, file: &str, out: &str) -> io::Result<u8> {
     let settings = match settings_of(rt, file) {
         Ok(settings) => settings,
         Err(bad) => return refuse_file(rt, "", &bad),
@@ -49,7 +50,7 @@ pub fn pcap(rt: &HostRuntime, file: &str, out: &str) -> io::Result<u8> {
 }
 
 /// Writes what standard input shows.
-fn write_capture(rt: &HostRuntime, settings: Settings, made: File) -> Result<Captured, Stop> {
+fn write_capture<S: System>(rt: &S, settings: Settings, made: File) -> Result<Captured, Stop> {
     let mut reader = BufReader::new(rt.alloc(), rt.reader())?;
     let mut writer = BufWriter::new(rt.alloc(), made)?;
     let captured = capture(rt.alloc(), settings, &mut reader, &mut writer)?;
@@ -58,7 +59,7 @@ fn write_capture(rt: &HostRuntime, settings: Settings, made: File) -> Result<Cap
 }
 
 /// Tells how many packets were written, and of what; gives the status.
-fn tell_captured(rt: &HostRuntime, captured: Captured) -> io::Result<u8> {
+fn tell_captured<S: System>(rt: &S, captured: Captured) -> io::Result<u8> {
     if let Some(line) = captured.refused {
         println!(rt; "refused line {line}")?;
     }
@@ -75,7 +76,7 @@ fn tell_captured(rt: &HostRuntime, captured: Captured) -> io::Result<u8> {
 }
 
 /// Tells why there is no capture, or no whole one; gives the status.
-fn refuse_capture(rt: &HostRuntime, why: &Unmade<'_>) -> io::Result<u8> {
+fn refuse_capture<S: System>(rt: &S, why: &Unmade<'_>) -> io::Result<u8> {
     let status = refuse_for(rt, "capture")?;
     complain(rt, "", why);
     Ok(status)

@@ -1,12 +1,12 @@
-//! `gateway run --record-folder`: a run that is taken down in pieces, which a folder keeps.
+//! The pieces of a run that is taken down, one after another.
 
-use crate::commit::commit_of;
+use crate::name::MOST_PIECES;
+use crate::run::{PieceFiles, RunUnderWay};
 use gw_capture::Pieces;
-use gw_command_line::VERSION;
-use gw_folder::{MOST_PIECES, PieceFiles, RunUnderWay};
-use gw_text::{Plain, RecordEndCause};
+use gw_text::RecordEndCause;
 use std::fs::File;
 use std::io::{self, ErrorKind};
+use std::rt::Files;
 
 /// How much a folder is to keep.
 #[derive(Clone, Copy)]
@@ -22,21 +22,26 @@ const LOOKS: u8 = 8;
 
 /// The pieces behind the first of a run that is taken down.
 #[derive(Drop)]
-pub struct FolderPieces<'a> {
-    run: RunUnderWay<'a, HostRuntime>,
+pub struct FolderPieces<'a, R> {
+    run: RunUnderWay<'a, R>,
     keeping: Keeping,
     /// How often something was written, modulo `LOOKS`.
     written: u8,
 }
 
-/// Begins a run in a folder at a wall time: the files of its first piece, and what gives the others.
-pub fn begin_run<'a>(
-    rt: &'a HostRuntime,
+/// Begins a run in a folder at a wall time: the files of its first piece, and what gives the others. `about` are the lines that
+/// tell of the run in each piece.
+///
+/// # Errors
+///
+/// What the system says where a file of the first piece can't be made, and `StorageFull` where there is no room for them.
+pub fn begin_run<'a, R: Files<File = File> + AllocGlobal + Clone + Drop>(
+    rt: &'a R,
     folder: &str,
     keeping: Keeping,
     wall: u64,
     about: &str,
-) -> io::Result<(PieceFiles, FolderPieces<'a>)> {
+) -> io::Result<(PieceFiles, FolderPieces<'a, R>)> {
     let mut run = RunUnderWay::begin(rt, folder, wall, about, keeping.of_runs)?;
     match run.next_piece()? {
         Some(files) => {
@@ -51,21 +56,7 @@ pub fn begin_run<'a>(
     }
 }
 
-/// What is told of a run in each of its pieces: the version, the commit where it is known, and the settings.
-pub fn about_run(rt: &HostRuntime, file: &str, digest: &[u8; 32]) -> io::Result<String> {
-    let (alloc, file, digest) = (
-        rt.alloc(),
-        Plain(file),
-        hex::encode(rt.alloc(), digest.as_slice())?,
-    );
-    let commit = match commit_of(rt) {
-        Some(commit) => format!(in alloc; "commit: {}\n", commit.as_str().trim())?,
-        None => String::new(alloc),
-    };
-    Ok(format!(in alloc; "version: {VERSION}\n{commit}settings: {file}\nsha256: {digest}\n")?)
-}
-
-impl<'a> Pieces<File> for FolderPieces<'a> {
+impl<'a, R: Files<File = File> + AllocGlobal + Clone + Drop> Pieces<File> for FolderPieces<'a, R> {
     fn next(&mut self) -> Result<(File, File), RecordEndCause> {
         match self.run.next_piece() {
             Ok(Some(files)) => Ok((files.steps, files.answers)),
@@ -95,7 +86,7 @@ impl<'a> Pieces<File> for FolderPieces<'a> {
     }
 }
 
-impl<'a> FolderPieces<'a> {
+impl<'a, R> FolderPieces<'a, R> {
     /// That the record has as much as it may: all runs together, or this one, whose pieces are as many as their numbers allow.
     fn full(&self) -> RecordEndCause {
         let of_pieces = self.keeping.of_file.saturating_mul(u64::from(MOST_PIECES));

@@ -1,0 +1,20 @@
+//! What is told of a run in each piece of its record.
+
+use crate::commit::commit_of;
+use gw_command_line::VERSION;
+use gw_text::Plain;
+use std::io;
+
+/// What is told of a run in each of its pieces: the version, the commit where it is known, and the settings.
+pub fn about_run(rt: &HostRuntime, file: &str, digest: &[u8; 32]) -> io::Result<String> {
+    let (alloc, file, digest) = (
+        rt.alloc(),
+        Plain(file),
+        hex::encode(rt.alloc(), digest.as_slice())?,
+    );
+    let commit = match commit_of(rt) {
+        Some(commit) => format!(in alloc; "commit: {}\n", commit.as_str().trim())?,
+        None => String::new(alloc),
+    };
+    Ok(format!(in alloc; "version: {VERSION}\n{commit}settings: {file}\nsha256: {digest}\n")?)
+}
