@@ -14,6 +14,7 @@ mod system;
 pub use capturing::pcap;
 pub use checking::check;
 pub use failure_of_file::FileFailure;
+pub use gw_points::Names;
 pub use lists::{Named, Unlisted, points, refuse_list};
 pub use refusal::{USAGE, complain, refuse_file, refuse_for};
 pub use settings_file::{BadFile, read_octets};

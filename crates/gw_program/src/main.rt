@@ -1,9 +1,6 @@
 //! The gateway's programs.
 #![tactic(auto)]
 
-mod about;
-mod commit;
-mod obstacle;
 mod recording;
 mod running;
 mod shown;

@@ -1,8 +1,7 @@
 //! `gateway run --record`: a run that is taken down as lines of a replay.
 
 use gw_capture::{Capture, Kept, Pumps};
-use gw_journal::{Journal, JournalEvent};
-use gw_server::{Call, Gate, Place, Pumped, Run, Step, StepFault};
+use gw_server::{Call, Gate, Journal, JournalEvent, Place, Pumped, Run, Step, StepFault};
 use gw_text::{RecordEnd, RecordEndCause};
 use std::sync::Wait;
 

@@ -1,68 +1,23 @@
 //! `gateway run`.
 
-use crate::about::about_run;
-use crate::obstacle::{Obstacle, failure_at};
 use crate::recording::{Recording, tell_end};
 use crate::shown::Shown;
 use gw_capture::{Capture, OnePiece, Pieces};
-use gw_checker::{Warning, read_settings, warnings_of};
-use gw_command_line::{RunOptions, VERSION};
-use gw_commands::{
-    BadFile, Named, USAGE, Unlisted, complain, read_octets, refuse_file, refuse_for, refuse_list,
-};
-use gw_folder::{FolderPieces, Keeping, PieceFiles, begin_run};
-use gw_journal::{Doubt, Journal, JournalEvent};
+use gw_command_line::RunOptions;
+use gw_commands::{Named, Names};
 use gw_map::Settings;
 use gw_model::Memory;
-use gw_points::Names;
 use gw_server::{
-    Clock, Closed, Gate, Host, Network, OpenGate, Options, SystemClock, journal_of, open, serve_as,
+    Clock, Closed, Gate, Host, Journal, OpenGate, Options, SystemClock, journal_of, serve_as,
 };
-use sha2::{Digest, Sha256};
-use std::alloc::{AllocError, Global};
-use std::fs::{self, File, OpenOptions};
+use gw_startup::{
+    Entrances, PieceFiles, Source, Unserved, check_records, folder_files, is_journal, read_source,
+    record_files, refuse_run, tell_start,
+};
+use std::alloc::Global;
+use std::fs::File;
 use std::net::TcpListener;
-use std::sync::Wait;
-use std::{env, io, thread};
-use thiserror::Error;
-
-/// What stands in front of a sentence where standard error goes to journald: the priority of an error.
-const ERROR: &str = "<3>";
-
-/// How the name of the file of the replies ends, behind that of the record.
-const ANSWERS: &str = ".answers";
-
-/// Why nothing is served.
-#[derive(Debug, Drop, Error)]
-enum Unserved<'a> {
-    /// The settings can't be used.
-    #[error(transparent)]
-    Settings(#[from] BadFile<'a>),
-    /// The list with the names can't be used.
-    #[error(transparent)]
-    Names(#[from] Unlisted<'a>),
-    /// What is behind `--allow` is no address.
-    #[error("--allow takes an address, or an address, / and a number of bits")]
-    Allow,
-    /// A record is asked for in two ways.
-    #[error("--record and --record-folder can't be used together")]
-    TwoRecords,
-    /// What is kept is bounded, and nothing is.
-    #[error("--record-keep needs --record-folder")]
-    KeptNowhere,
-    /// A socket can't be opened, or a file can't be made.
-    #[error(transparent)]
-    Hindered(Obstacle<'a>),
-    /// Memory, or a thread, was refused.
-    #[error("no memory")]
-    Memory(#[from(alloc)] AllocError),
-}
-
-impl<'a> From<Memory> for Unserved<'a> {
-    fn from(_memory: Memory) -> Unserved<'a> {
-        Unserved::Memory(AllocError)
-    }
-}
+use std::{io, thread};
 
 /// Serves control centres and outstations as a settings file says, until so many connections of control centres have
 /// ended, or standard input has, or for ever; gives the status.
@@ -78,18 +33,7 @@ pub fn run<H: Host>(
             println!(rt; "steps {}", closed.total)?;
             Ok(0)
         }
-        Err(Unserved::Settings(bad)) => refuse_file(rt, front_of(rt), &bad),
-        Err(Unserved::Names(why)) => refuse_list(rt, front_of(rt), &why),
-        Err(refused @ (Unserved::Allow | Unserved::TwoRecords | Unserved::KeptNowhere)) => {
-            eprintln!(rt; "error: {refused}")?;
-            Ok(USAGE)
-        }
-        Err(Unserved::Hindered(obstacle)) => {
-            let status = refuse_for(rt, obstacle.word())?;
-            complain(rt, front_of(rt), &obstacle);
-            Ok(status)
-        }
-        Err(Unserved::Memory(_)) => refuse_for(rt, "memory"),
+        Err(why) => refuse_run(rt, &why),
     }
 }
 
@@ -127,18 +71,6 @@ fn serve_file<'a, H: Host>(
     site.serve_asked(rt, settings, source, asked)
 }
 
-/// Whether a record can be taken as it is asked for, by the options alone.
-fn check_records<'a>(file: &str, asked: &RunOptions<'_>) -> Result<(), Unserved<'a>> {
-    if is_overwritten(file, asked.record) {
-        return Err(Unserved::Hindered(Obstacle::Overwriting));
-    }
-    match (asked.record, asked.record_folder, asked.record_keep) {
-        (Some(_), Some(_), _) => Err(Unserved::TwoRecords),
-        (_, None, Some(_)) => Err(Unserved::KeptNowhere),
-        _ => Ok(()),
-    }
-}
-
 /// Listens, and begins the journal.
 fn begin<'a, H: Host>(
     rt: &HostRuntime,
@@ -154,82 +86,6 @@ fn begin<'a, H: Host>(
     Ok((entrances, journal))
 }
 
-/// A settings file: its name, and the SHA-256 of its octets.
-#[derive(Clone, Copy)]
-struct Source<'a> {
-    file: &'a str,
-    digest: [u8; 32],
-}
-
-/// Whether a record would be written into the settings file, by their names.
-fn is_overwritten(file: &str, record: Option<&str>) -> bool {
-    match record {
-        Some(record) => match file.strip_prefix(record) {
-            Some(rest) => rest.is_empty() || rest == ANSWERS,
-            None => false,
-        },
-        None => false,
-    }
-}
-
-/// The settings of a file.
-fn read_source<'a>(
-    rt: &HostRuntime,
-    file: &'a str,
-) -> Result<(Settings, Source<'a>), Unserved<'a>> {
-    let octets = read_octets(rt, file)?;
-    match read_settings(rt.alloc(), octets.as_slice()) {
-        Ok(settings) => {
-            let digest = Sha256::digest(octets.as_slice());
-            Ok((settings, Source { file, digest }))
-        }
-        Err(why) => Err(Unserved::Settings(BadFile::Refused(octets, why))),
-    }
-}
-
-/// Where connections are accepted, and from whom.
-#[derive(Drop)]
-struct Entrances {
-    allow: Vec<Network>,
-    status: Option<TcpListener>,
-    listener: TcpListener,
-}
-
-impl Entrances {
-    /// Listens for control centres, and for those who ask for the status.
-    fn open<'a, H: Host>(
-        alloc: Global,
-        host: &H,
-        settings: &Settings,
-        asked: &RunOptions<'a>,
-    ) -> Result<Entrances, Unserved<'a>> {
-        let allow = networks_of(alloc, &asked.allow)?;
-        let status = status_listener(host, asked.status)?;
-        let listener = listener_of(alloc, host, settings)?;
-        Ok(Entrances {
-            allow,
-            status,
-            listener,
-        })
-    }
-}
-
-/// Listens for control centres.
-fn listener_of<'a, H: Host>(
-    alloc: Global,
-    host: &H,
-    settings: &Settings,
-) -> Result<TcpListener, Unserved<'a>> {
-    match open(host, settings) {
-        Ok(listener) => Ok(listener),
-        Err(error) => {
-            let place = String::from_str(alloc, settings.station().listen.as_str())?;
-            let failure = failure_at(place.as_str(), error.kind());
-            Err(Unserved::Hindered(Obstacle::Listen(place, failure)))
-        }
-    }
-}
-
 /// The journal, which is told that the gateway starts.
 fn begun_journal<'a, H: Host>(
     rt: &HostRuntime,
@@ -240,53 +96,8 @@ fn begun_journal<'a, H: Host>(
     names: Names,
 ) -> Result<Journal, Unserved<'a>> {
     let journal = journal_of(rt.alloc(), settings, is_journal(rt))?.with_names(names);
-    let wall = clock.wall();
-    journal.tell(host, wall, started(rt.alloc(), settings, source)?);
-    tell_doubts(rt.alloc(), host, &journal, wall, settings)?;
+    tell_start(rt.alloc(), host, &journal, clock.wall(), settings, source)?;
     Ok(journal)
-}
-
-/// The files of a record, which are made: that of the steps, and that of the replies.
-fn record_files<'a>(rt: &HostRuntime, path: &'a str) -> Result<PieceFiles, Unserved<'a>> {
-    let answers_path = format!(in rt.alloc(); "{path}{ANSWERS}")?;
-    let steps = match new_file(rt, path) {
-        Ok(steps) => steps,
-        Err(error) => return Err(Unserved::Hindered(Obstacle::unmade(path, "", error.kind()))),
-    };
-    match new_file(rt, answers_path.as_str()) {
-        Ok(answers) => Ok(PieceFiles { steps, answers }),
-        Err(error) => {
-            let _ = fs::remove_file(rt, path);
-            Err(Unserved::Hindered(Obstacle::unmade(path, ANSWERS, error.kind())))
-        }
-    }
-}
-
-/// A file that is made and may be written.
-fn new_file(rt: &HostRuntime, path: &str) -> io::Result<File> {
-    OpenOptions::new()
-        .write(true)
-        .create_new(true)
-        .open(rt, path)
-}
-
-/// The first files of a record in a folder, and what gives the others.
-fn folder_files<'r, 'a>(
-    rt: &'r HostRuntime,
-    folder: &'a str,
-    wall: u64,
-    source: Source<'_>,
-    asked: &RunOptions<'_>,
-) -> Result<(PieceFiles, FolderPieces<'r, HostRuntime>), Unserved<'a>> {
-    let keeping = Keeping {
-        of_file: u64::from(asked.record_size),
-        of_runs: asked.record_keep.map(u64::from),
-    };
-    let begun = match about_run(rt, source.file, &source.digest) {
-        Ok(about) => begin_run(rt, folder, keeping, wall, about.as_str()),
-        Err(error) => Err(error),
-    };
-    begun.map_err(|error| Unserved::Hindered(Obstacle::unmade(folder, "", error.kind())))
 }
 
 /// What is served, and what is told of it.
@@ -379,87 +190,5 @@ impl<'a, H: Host> Site<'a, H> {
         let PieceFiles { steps, answers } = files;
         let ended = capture.write_pieces(self.host, steps, answers, pieces);
         tell_end(self.host, self.journal, self.clock.wall(), ended);
-    }
-}
-
-/// The networks that are allowed.
-fn networks_of<'a>(alloc: Global, texts: &[&str]) -> Result<Vec<Network>, Unserved<'a>> {
-    let mut networks = Vec::with_capacity(alloc, texts.len())?;
-    for text in texts {
-        match Network::read(text) {
-            Some(network) => networks.push(network)?,
-            None => return Err(Unserved::Allow),
-        }
-    }
-    Ok(networks)
-}
-
-/// Listens where the status is to be served, if it is.
-fn status_listener<'a, H: Host>(
-    host: &H,
-    place: Option<&'a str>,
-) -> Result<Option<TcpListener>, Unserved<'a>> {
-    match place {
-        Some(place) => match TcpListener::bind(host, place) {
-            Ok(listener) => Ok(Some(listener)),
-            Err(error) => {
-                let failure = failure_at(place, error.kind());
-                Err(Unserved::Hindered(Obstacle::Status(place, failure)))
-            }
-        },
-        None => Ok(None),
-    }
-}
-
-/// Whether standard error goes to journald, which takes a priority in front of a line.
-fn is_journal(rt: &HostRuntime) -> bool {
-    env::var(rt, "JOURNAL_STREAM").is_ok()
-}
-
-/// What stands in front of a sentence on why nothing is served.
-fn front_of(rt: &HostRuntime) -> &'static str {
-    if is_journal(rt) { ERROR } else { "" }
-}
-
-/// That the gateway starts, with the settings of a file.
-fn started(
-    alloc: Global,
-    settings: &Settings,
-    source: Source<'_>,
-) -> Result<JournalEvent, AllocError> {
-    Ok(JournalEvent::Started {
-        version: VERSION,
-        file: String::from_str(alloc, source.file)?,
-        digest: source.digest,
-        rows: settings.rows().len(),
-        controls: settings.controls().len(),
-        outstations: settings.outstations().len(),
-    })
-}
-
-/// Tells what reads like a slip in the settings.
-fn tell_doubts<W: Wait>(
-    alloc: Global,
-    rt: &W,
-    journal: &Journal,
-    wall: u64,
-    settings: &Settings,
-) -> Result<(), AllocError> {
-    for warning in &warnings_of(alloc, settings)? {
-        if let Some(doubt) = doubt_of(*warning) {
-            journal.tell(rt, wall, JournalEvent::Doubtful(doubt));
-        }
-    }
-    Ok(())
-}
-
-/// What is told of a warning when the gateway starts, if anything.
-fn doubt_of(warning: Warning) -> Option<Doubt> {
-    match warning {
-        Warning::ConnectWithoutPort { outstation, .. } => {
-            Some(Doubt::ConnectWithoutPort { outstation })
-        }
-        Warning::SamePlace { first, second } => Some(Doubt::SamePlace { first, second }),
-        _ => None,
     }
 }

@@ -2,11 +2,12 @@
 
 use crate::commit::commit_of;
 use gw_command_line::VERSION;
+use gw_commands::System;
 use gw_text::Plain;
 use std::io;
 
 /// What is told of a run in each of its pieces: the version, the commit where it is known, and the settings.
-pub fn about_run(rt: &HostRuntime, file: &str, digest: &[u8; 32]) -> io::Result<String> {
+pub fn about_run<S: System>(rt: &S, file: &str, digest: &[u8; 32]) -> io::Result<String> {
     let (alloc, file, digest) = (
         rt.alloc(),
         Plain(file),
