@@ -94,10 +94,9 @@ def want_tools(**packages):
         raise Refused(f"this is needed: apt-get install {' '.join(missing)}")
 
 
-def run(*words, **named):
-    """A command that is run to its end: its status and what it wrote."""
-    return subprocess.run([str(it) for it in words], text=True, stdin=subprocess.DEVNULL, stdout=subprocess.PIPE,
-                          stderr=subprocess.STDOUT, **named)
+def run(*words, given="", **named):
+    """A command that is run to its end, with this as its input: its status and what it wrote."""
+    return subprocess.run([str(it) for it in words], text=True, input=given, stdout=subprocess.PIPE, stderr=subprocess.STDOUT, **named)
 
 
 def must(*words, **named):
