@@ -1,5 +1,6 @@
 """The surfaces that are given lines and files, played by `.ci/fuzz`: settings files to `gateway check`, and lines to
 `gateway replay` and `gateway translate`."""
+import re
 import resource
 import subprocess
 import time
@@ -192,6 +193,19 @@ def is_plain(text):
     return all(unicodedata.category(it) != "Cc" for it in text)
 
 
+def begins_with(refusal, complaint):
+    """Whether standard error has a hundred sentences at most, and the first is on what the file is refused for."""
+    found = re.fullmatch(r"refused [2-8] [A-Za-z]+ (\S+) (\d+) (.*)", refusal)
+    sentences = complaint.removesuffix("\n").split("\n")
+    if not found:
+        return len(sentences) == 1 or refusal == "refused 1 Toml"
+    section, position, key = found.groups()
+    entry = section if section in ("top", "station") else f"{section} {position}"
+    has_key = key in ("", "count") or key in sentences[0]
+    is_of_entry = sentences[0].startswith((f"{entry}:", f"{entry} "))
+    return is_of_entry and has_key and len(sentences) <= 101
+
+
 def judge_settings(octets, output, complaint, status):
     """What `gateway check` writes of a file is what the tables say."""
     lines = output.split("\n")[:-1]
@@ -200,6 +214,8 @@ def judge_settings(octets, output, complaint, status):
         raise Difference(f"status {status} and {lines[:3]}")
     if is_refused and not complaint.strip() or not is_plain(complaint.replace("\n", "")):
         raise Difference(f"standard error: {complaint[:300]!r}")
+    if is_refused and not begins_with(lines[0], complaint):
+        raise Difference(f"standard error begins otherwise than {lines[0]!r}: {complaint[:300]!r}")
     try:
         wanted = answer_to_settings(octets)
     except RecursionError:

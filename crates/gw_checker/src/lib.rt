@@ -2,13 +2,18 @@
 #![tactic(auto)]
 
 mod allowed;
+mod document;
+mod entries;
+mod faults;
 mod packing;
 mod reading;
 mod report;
+mod seen;
 mod sentence;
 mod warning;
 mod warnings;
 
+pub use gw_profile::Origin;
 pub use reading::{LONGEST_FILE, Unusable, read_settings};
 pub use report::CheckReport;
 pub use sentence::explain;

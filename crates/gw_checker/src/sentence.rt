@@ -1,54 +1,98 @@
-//! What is wrong with a settings file, in a sentence for a person.
+//! What is wrong with a settings file, in sentences for a person.
 
 use crate::allowed::write_allowed;
-use crate::reading::{Unusable, read_settings};
+use crate::document::faults_in;
+use crate::faults::{EntryPlace, FaultList, FileFault, MOST_TOLD};
+use crate::reading::Unusable;
 use gw_profile::{Fault, KeyPlace, Plain, Section, SettingsFault};
 use std::alloc::Global;
 use std::io::{self, Write};
 use std::str;
 use toml::{Table, Value};
 
-/// Writes a sentence on what is wrong with the octets of a settings file: which entry, what was found there, and what
-/// is allowed; for a text that is no TOML document the line and column where reading stopped. Writes nothing where
-/// they are settings.
-pub fn explain<W: Write>(alloc: Global, octets: &[u8], writer: &mut W) -> io::Result<()> {
-    match read_settings(alloc, octets) {
-        Ok(_settings) => Ok(()),
-        Err(why) => write_reason(alloc, octets, &why, writer),
-    }
-}
-
-/// Writes a sentence on why the octets of a file can't be used.
-fn write_reason<W: Write>(
+/// Writes why the octets of a settings file can't be used, with what stands in front of each line: of all that is wrong with
+/// its entries, the first hundred, each with which entry it is, what was found there, and what is allowed, and how many more
+/// there are; of a text that is no TOML document the line and column where reading stopped.
+pub fn explain<W: Write>(
     alloc: Global,
     octets: &[u8],
     why: &Unusable,
+    front: &str,
     writer: &mut W,
 ) -> io::Result<()> {
     let sentence = match why {
         Unusable::File => "The file can't be read.",
         Unusable::Memory => "There is not enough memory to read the file.",
         Unusable::NotText => "The file is no text in UTF-8.",
-        Unusable::Refused(fault) => return write_fault(alloc, octets, fault, writer),
+        Unusable::Refused(fault) => return write_fault(alloc, octets, fault, front, writer),
     };
-    writeln!(writer, "{sentence}")
+    writeln!(writer, "{front}{sentence}")
 }
 
-/// Writes a sentence on what is wrong with the text of a file.
+/// Writes what is wrong with the text of a file.
 fn write_fault<W: Write>(
     alloc: Global,
     octets: &[u8],
     fault: &SettingsFault,
+    front: &str,
     writer: &mut W,
 ) -> io::Result<()> {
     match fault {
-        SettingsFault::Toml(error) => writeln!(writer, "The file is no TOML document: {error}"),
-        SettingsFault::Memory => writeln!(writer, "There is not enough memory to read the file."),
-        SettingsFault::Refused(fault, place) => match table_of(alloc, octets) {
-            Some(top) => write_place(*fault, place, &top, writer),
+        SettingsFault::Toml(error) => {
+            writeln!(writer, "{front}The file is no TOML document: {error}")
+        }
+        SettingsFault::Memory => writeln!(
+            writer,
+            "{front}There is not enough memory to read the file."
+        ),
+        SettingsFault::Refused(..) => match table_of(alloc, octets) {
+            Some(top) => write_faults(alloc, &top, front, writer),
             None => Ok(()),
         },
     }
+}
+
+/// Writes all that is wrong with a document: its entries, then sources and information objects that stand twice.
+fn write_faults<W: Write>(
+    alloc: Global,
+    top: &Table,
+    front: &str,
+    writer: &mut W,
+) -> io::Result<()> {
+    let found = match faults_in(alloc, top) {
+        Ok(found) => found,
+        Err(_) => return Err(io::ErrorKind::OutOfMemory.into()),
+    };
+    let told = write_list(&found.of_entries, MOST_TOLD, top, front, writer)?;
+    let room = MOST_TOLD.saturating_sub(told);
+    let told = write_list(found.seen.double_sources(), room, top, front, writer)?;
+    let room = room.saturating_sub(told);
+    write_list(found.seen.double_objects(), room, top, front, writer)?;
+    write_more(found.count().saturating_sub(MOST_TOLD), front, writer)
+}
+
+/// Writes the first of some faults, at most so many; gives how many.
+fn write_list<W: Write>(
+    faults: &FaultList,
+    most: usize,
+    top: &Table,
+    front: &str,
+    writer: &mut W,
+) -> io::Result<usize> {
+    let told = faults.front(most);
+    for fault in told {
+        writer.write_all(front.as_bytes())?;
+        write_place(fault, top, writer)?;
+    }
+    Ok(told.len())
+}
+
+/// Writes how many faults there are besides those that were written, if there are any.
+fn write_more<W: Write>(more: usize, front: &str, writer: &mut W) -> io::Result<()> {
+    if more == 0 {
+        return Ok(());
+    }
+    writeln!(writer, "{front}and {more} more")
 }
 
 /// The document that the octets of a file are, if they are one.
@@ -58,18 +102,25 @@ fn table_of(alloc: Global, octets: &[u8]) -> Option<Table> {
 }
 
 /// Writes a sentence on what is wrong at a place of a document.
-fn write_place<W: Write>(
-    fault: Fault,
-    place: &KeyPlace,
-    top: &Table,
-    writer: &mut W,
-) -> io::Result<()> {
-    let entry = entry_at(top, place);
-    write_entry(place, entry, writer)?;
-    write_found(fault, place, top, entry, writer)?;
+fn write_place<W: Write>(found: &FileFault, top: &Table, writer: &mut W) -> io::Result<()> {
+    let place = &found.place;
+    let entry = entry_at(top, place.section, place.position);
+    write_entry(place.section, place.position, entry, writer)?;
+    write!(writer, ": ")?;
+    write_found(found.fault, place, top, entry, writer)?;
+    write_first(found.first, top, writer)?;
     write!(writer, "; allowed: ")?;
     write_allowed(place.section, place.key.as_str(), writer)?;
     writeln!(writer, ".")
+}
+
+/// Writes which entry in front has the same, if one has.
+fn write_first<W: Write>(first: Option<EntryPlace>, top: &Table, writer: &mut W) -> io::Result<()> {
+    let Some(EntryPlace { section, position }) = first else {
+        return Ok(());
+    };
+    write!(writer, ", as in ")?;
+    write_entry(section, position, entry_at(top, section, position), writer)
 }
 
 /// The entries of a section that is a list.
@@ -80,12 +131,12 @@ fn entries<'a>(top: &'a Table, section: Section) -> &'a [Value] {
     }
 }
 
-/// The table of a place, if it has one.
-fn entry_at<'a>(top: &'a Table, place: &KeyPlace) -> Option<&'a Table> {
-    let found = match place.section {
+/// The table of an entry, if it has one.
+fn entry_at(top: &Table, section: Section, position: usize) -> Option<&Table> {
+    let found = match section {
         Section::Top => return Some(top),
         Section::Station => top.get("station"),
-        section => entries(top, section).get(place.position),
+        section => entries(top, section).get(position),
     };
     found?.as_table()
 }
@@ -97,18 +148,18 @@ fn value_at<'a>(table: Option<&'a Table>, key: &str) -> Option<&'a Value> {
 
 /// Writes which entry it is: its section, its position, and its address and outstation where it has them.
 fn write_entry<W: Write>(
-    place: &KeyPlace,
+    section: Section,
+    position: usize,
     entry: Option<&Table>,
     writer: &mut W,
 ) -> io::Result<()> {
-    let section = place.section.name();
-    match place.section {
-        Section::Top | Section::Station => write!(writer, "{section}: "),
+    let name = section.name();
+    match section {
+        Section::Top | Section::Station => write!(writer, "{name}"),
         Section::Outstation | Section::Point | Section::Control => {
-            write!(writer, "{section} {}", place.position)?;
+            write!(writer, "{name} {position}")?;
             write_number(" of outstation ", value_at(entry, "outstation"), writer)?;
-            write_number(" with address ", value_at(entry, "address"), writer)?;
-            write!(writer, ": ")
+            write_number(" with address ", value_at(entry, "address"), writer)
         }
     }
 }

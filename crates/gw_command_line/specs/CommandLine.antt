@@ -47,9 +47,11 @@ flag_rule name = record (new_rule name) { long = Some name; action = Some SetTru
 abbrev pub file_app : Text → App
 file_app name = with_rule (new_app name) file_rule
 
--- `gateway check FILE [--profile] [--names FILE]`
+-- `gateway check FILE [--profile] [--profile-html] [--names FILE]`
 abbrev pub check : App
-check = fold with_rule (file_app (codes "check")) (flag_rule (codes "profile") ∷ text_rule (codes "names") ∷ [])
+check =
+    fold with_rule (file_app (codes "check"))
+    (flag_rule (codes "profile") ∷ flag_rule (codes "profile-html") ∷ text_rule (codes "names") ∷ [])
 
 -- `gateway points FILE [--site FILE] [--csv] [--names FILE]`
 abbrev pub points : App
@@ -148,9 +150,10 @@ options_of options = record {
   record_keep = options.record_keep;
 }
 
--- what is asked for, with the words that name files and addresses, whether the profile is, and whether a list is
+-- what is asked for, with the words that name files and addresses, whether the profile is, as text and in HTML, and whether a
+-- list is
 pub data Request : Type 0 where
-  to_check : Text → Bool → Option Text → Request
+  to_check : Text → Bool → Bool → Option Text → Request
   to_points : Text → Option Text → Bool → Option Text → Request
   to_translate : Option Text → Request
   to_replay : Text → Request
@@ -158,7 +161,8 @@ pub data Request : Type 0 where
   to_run : Text → Option ℕ → Options → Request
 
 abbrev pub request_of : Asked → Request
-request_of (Check file profile names) = to_check file.now profile (option_map (λ list. list.now) names)
+request_of (Check file profile profile_html names) =
+    to_check file.now profile profile_html (option_map (λ list. list.now) names)
 request_of (Points file site csv names) =
     to_points file.now (option_map (λ settings. settings.now) site) csv (option_map (λ list. list.now) names)
 request_of (Translate settings) = to_translate (option_map (λ file. file.now) settings)
@@ -215,7 +219,9 @@ abbrev pub run_in : List Row → Request
 run_in rows = to_run (file_in rows) (number_in (codes "sessions") rows) (options_in rows)
 
 abbrev pub check_in : List Row → Request
-check_in rows = to_check (file_in rows) (is_used (codes "profile") rows) (first_of (codes "names") rows)
+check_in rows =
+    to_check (file_in rows) (is_used (codes "profile") rows) (is_used (codes "profile-html") rows)
+    (first_of (codes "names") rows)
 
 abbrev pub points_in : List Row → Request
 points_in rows =

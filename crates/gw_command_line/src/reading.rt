@@ -29,12 +29,13 @@ const DEFAULT_RECORD_SIZE: u32 = 256;
 /// What a command line asks for.
 #[derive(Drop)]
 pub enum Asked<'a> {
-    /// `gateway check FILE [--profile] [--names FILE]`: tells what a settings file means, or what is wrong with it; with
-    /// `--profile` as the interoperability list and the signals of the station, and with `--names` with the names of a
-    /// list.
+    /// `gateway check FILE [--profile] [--profile-html] [--names FILE]`: tells what a settings file means, or what is wrong
+    /// with it; with `--profile` as the sheet that is signed, with `--profile-html` as the same in HTML, and with `--names` with
+    /// the names of a list.
     Check {
         file: &'a str,
         profile: bool,
+        profile_html: bool,
         names: Option<&'a str>,
     },
     /// `gateway points FILE --site FILE`: writes the settings of a list, for the station and the outstations of a
@@ -225,8 +226,9 @@ fn check_command<'a>(alloc: Global) -> Result<Command<'a>, AllocError>
     let profile = flag_argument(
         alloc,
         "profile",
-        "Writes the interoperability list of the station and its signals instead",
+        "Writes the sheet that is signed instead: interoperability list, outstations, signals",
     );
+    let profile_html = flag_argument(alloc, "profile-html", "Writes the same as an HTML document");
     let names = text_argument(alloc, "names", "FILE", "The list with the names to write");
     let command = file_command(
         alloc,
@@ -234,6 +236,7 @@ fn check_command<'a>(alloc: Global) -> Result<Command<'a>, AllocError>
         "Tells what a settings file means, or what is wrong with it",
     );
     let command = with_argument(command, profile);
+    let command = with_argument(command, profile_html);
     with_argument(command, names)
 }
 
@@ -553,6 +556,7 @@ fn check_named<'a>(matches: &ArgMatches<'a>) -> Asked<'a>
     Asked::Check {
         file: file_named(matches),
         profile: flag_named(matches, "profile"),
+        profile_html: flag_named(matches, "profile-html"),
         names: text_named(matches, "names"),
     }
 }

@@ -1,50 +1,100 @@
-//! `gateway check`: what a settings file means, with the names of a list, or what is wrong with it.
+//! `gateway check`: what a settings file means, or what is wrong with it.
 
+use crate::commit::commit_of;
 use crate::lists::{Named, refuse_list};
 use crate::refusal::{REFUSED, refuse_file, refuse_octets, tell_texts};
 use crate::settings_file::read_octets;
 use crate::system::System;
-use gw_checker::{CheckReport, read_settings, write_warnings};
+use gw_checker::{CheckReport, Origin, read_settings, write_warnings};
+use gw_command_line::VERSION;
 use gw_map::Settings;
+use sha2::{Digest, Sha256};
 use std::io::{self, BufWriter, Write};
 
-/// `gateway check`, as the interoperability list and the signals of the station where a profile is asked for; gives the
-/// status.
-pub fn check<S: System>(rt: &S, path: &str, names: Option<&str>, profile: bool) -> io::Result<u8> {
-    let report = if profile {
-        CheckReport::Profile
-    } else {
-        CheckReport::Listing
-    };
-    match read_octets(rt, path) {
-        Ok(octets) => check_octets(rt, octets.as_slice(), names, report),
-        Err(bad) => refuse_file(rt, "", &bad),
+/// In which form settings are told.
+#[derive(Clone, Copy)]
+pub enum CheckForm {
+    /// A line for each point and each control.
+    Listing,
+    /// The sheet that is signed.
+    Profile,
+    /// The same in HTML.
+    HtmlProfile,
+}
+
+impl CheckForm {
+    /// That which a command line asks for.
+    pub fn of(profile: bool, profile_html: bool) -> CheckForm {
+        if profile_html {
+            CheckForm::HtmlProfile
+        } else if profile {
+            CheckForm::Profile
+        } else {
+            CheckForm::Listing
+        }
     }
 }
 
-/// What the octets of a settings file mean, or what is wrong with them; gives the status.
-fn check_octets<S: System>(
+/// `gateway check`, in a form, with the names of a list; gives the status.
+pub fn check<S: System>(
     rt: &S,
-    octets: &[u8],
+    file: &str,
+    form: CheckForm,
     names: Option<&str>,
-    report: CheckReport,
 ) -> io::Result<u8> {
-    match read_settings(rt.alloc(), octets) {
-        Ok(settings) => check_named(rt, &settings, names, report),
-        Err(why) => refuse_octets(rt, "", octets, &why),
+    let octets = match read_octets(rt, file) {
+        Ok(octets) => octets,
+        Err(bad) => return refuse_file(rt, "", &bad),
+    };
+    let settings = match read_settings(rt.alloc(), octets.as_slice()) {
+        Ok(settings) => settings,
+        Err(why) => return refuse_octets(rt, "", octets.as_slice(), &why),
+    };
+    match Named::read(rt, &settings, names) {
+        Ok(named) => {
+            let source = Source {
+                file,
+                octets: octets.as_slice(),
+                names,
+            };
+            check_named(rt, source, &settings, &named, form)
+        }
+        Err(why) => refuse_list(rt, "", &why),
     }
 }
 
-/// What settings mean, with the names of a list, or what is wrong with that; gives the status.
+/// Where settings and names are from.
+#[derive(Clone, Copy)]
+struct Source<'a> {
+    file: &'a str,
+    octets: &'a [u8],
+    names: Option<&'a str>,
+}
+
+/// Writes what the settings of a file mean; gives the status.
 fn check_named<S: System>(
     rt: &S,
+    source: Source<'_>,
     settings: &Settings,
-    names: Option<&str>,
-    report: CheckReport,
+    named: &Named,
+    form: CheckForm,
 ) -> io::Result<u8> {
-    match Named::read(rt, settings, names) {
-        Ok(named) => write_report(rt, settings, &named, report),
-        Err(why) => refuse_list(rt, "", &why),
+    let digest = hex::encode(rt.alloc(), Sha256::digest(source.octets).as_slice())?;
+    let commit = commit_of(rt);
+    let origin = Origin {
+        file: source.file,
+        names: source.names,
+        digest: digest.as_str(),
+        version: VERSION,
+        commit: commit.as_ref().map(|commit| commit.as_str().trim()),
+        second: rt.since_1970().map_or(0, |time| time.as_secs()),
+    };
+    match form {
+        CheckForm::Listing => write_report(rt, settings, named, CheckReport::Listing),
+        CheckForm::Profile => write_report(rt, settings, named, CheckReport::Profile(origin)),
+        CheckForm::HtmlProfile => {
+            write_report(rt, settings, named, CheckReport::HtmlProfile(origin))
+        }
     }
 }
 
@@ -53,10 +103,11 @@ fn write_report<S: System>(
     rt: &S,
     settings: &Settings,
     named: &Named,
-    report: CheckReport,
+    report: CheckReport<'_>,
 ) -> io::Result<u8> {
     let mut writer = BufWriter::new(rt.alloc(), io::writer(rt))?;
-    if report.write(settings, &named.names, &mut writer).is_err() || writer.flush().is_err() {
+    let written = report.write(rt.alloc(), settings, &named.names, &mut writer);
+    if written.is_err() || writer.flush().is_err() {
         return Ok(REFUSED);
     }
     let mut warnings = Vec::new(rt.alloc());

@@ -4,6 +4,7 @@
 
 mod capturing;
 mod checking;
+mod commit;
 mod failure_of_file;
 mod lists;
 mod refusal;
@@ -12,7 +13,8 @@ mod streaming;
 mod system;
 
 pub use capturing::pcap;
-pub use checking::check;
+pub use checking::{CheckForm, check};
+pub use commit::commit_of;
 pub use failure_of_file::FileFailure;
 pub use gw_points::Names;
 pub use lists::{Named, Unlisted, points, refuse_list};

@@ -25,7 +25,7 @@ pub fn refuse<S: System>(rt: &S, why: &Unusable) -> io::Result<u8> {
     Ok(REFUSED)
 }
 
-/// Writes why a settings file can't be used, and a sentence on it, with what stands in front of that; gives the status.
+/// Writes why a settings file can't be used, and sentences on it, with what stands in front of each; gives the status.
 pub fn refuse_file<S: System>(rt: &S, front: &str, bad: &BadFile<'_>) -> io::Result<u8> {
     match bad {
         BadFile::Unread(_, why) => {
@@ -37,7 +37,8 @@ pub fn refuse_file<S: System>(rt: &S, front: &str, bad: &BadFile<'_>) -> io::Res
     }
 }
 
-/// Writes why the octets of a settings file can't be used, and a sentence on it; gives the status.
+/// Writes why the octets of a settings file can't be used, and sentences on all that is wrong with them, with what stands in
+/// front of each; gives the status.
 pub fn refuse_octets<S: System>(
     rt: &S,
     front: &str,
@@ -45,9 +46,9 @@ pub fn refuse_octets<S: System>(
     why: &Unusable,
 ) -> io::Result<u8> {
     let status = refuse(rt, why)?;
-    let mut sentence = Vec::new(rt.alloc());
-    if explain(rt.alloc(), octets, &mut sentence).is_ok() && !sentence.is_empty() {
-        tell_texts(rt, front, sentence.as_slice());
+    let mut sentences = Vec::new(rt.alloc());
+    if explain(rt.alloc(), octets, why, front, &mut sentences).is_ok() {
+        tell_texts(rt, "", sentences.as_slice());
     }
     Ok(status)
 }

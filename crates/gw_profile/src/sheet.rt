@@ -1,36 +1,26 @@
-//! The interoperability list of IEC 60870-5-104, clause 9, in its order: `[x]` is used, `[ ]` isn't.
+//! The interoperability list of IEC 60870-5-104, clause 9, in its order: what is used, and what isn't.
 
+use crate::causes::write_causes;
 use crate::commands::{write_command_transmission, write_command_types};
-use crate::types::point_types;
+use crate::form::{Form, write_marks};
+use crate::types::{is_shown, point_types};
 use gw_map::{Row, Settings, Show, Station};
 use gw_text::Plain;
 use jiff::tz::TimeZone;
 use jiff_tz::posix;
-use std::io::{self, Write};
+use std::{fmt, io};
 
-const DEVICE: &str = "Interoperability of the controlled station, IEC 60870-5-104, clause 9
-[x] is used with these settings, [ ] isn't
-
-9.1 System or device
+const DEVICE: &str = "\
 [ ] system definition
 [ ] controlling station definition (master)
-[x] controlled station definition (slave)
+[x] controlled station definition (slave)";
 
-9.2 Network configuration, 9.3 physical layer, 9.4 link layer
-[ ] serial lines of IEC 60870-5-101: not applicable
-
-9.5 Application layer
-[x] transmission mode 1: least significant octet first
-[ ] common address of ASDU: one octet
-[x] common address of ASDU: two octets:";
-
-const ADDRESSES: &str = "
+const ADDRESSES: &str = "\
 [ ] information object address: one or two octets; structured
 [x] information object address: three octets, unstructured
 [ ] cause of transmission: one octet
 [x] cause of transmission: two octets, with originator address
-[x] length of APDU: 253 at most, in both directions
-";
+[x] length of APDU: 253 at most, in both directions";
 
 /// A way to show a point, without time or with it, at its place among the types.
 #[derive(Clone, Copy)]
@@ -97,8 +87,7 @@ const POINT_TYPES: [Listed; 10] = [
     },
 ];
 
-const FUNCTIONS: &str = "
-System information, parameters and file transfer
+const SYSTEM: &str = "\
 [ ] 70 M_EI_NA_1 end of initialization
 [x] 100 C_IC_NA_1 interrogation command: QOI 20 (station)
 [x] 101 C_CI_NA_1 counter interrogation command: QCC 5 (request general, no freeze)
@@ -107,18 +96,9 @@ System information, parameters and file transfer
 [ ] 104 C_TS_NA_1, 107 C_TS_TA_1 test command
 [ ] 105 C_RP_NA_1 reset process command
 [ ] 106 C_CD_NA_1 delay acquisition command
-[ ] 110 to 113: parameters; 120 to 127: file transfer
+[ ] 110 to 113: parameters; 120 to 127: file transfer";
 
-Type identification and cause of transmission
-1, 3, 7, 11: 3 spontaneous, 5 requested, 20 interrogated by station interrogation
-15: 3 spontaneous, 37 requested by general counter request
-30, 31, 33, 35, 37: 3 spontaneous
-45, 46, 49: 6 and 8 are taken; 7, 9 and 10 are sent, and 7, 9, 45, 46 and 47 with P/N 1
-100, 101: 6 and 8 are taken; 7 and 10 are sent, and 7, 9, 45, 46 and 47 with P/N 1
-102: 5 is taken; 45, 46 and 47 are sent with P/N 1
-any other that a client sends: 44 is sent with P/N 1
-
-9.6 Basic application functions
+const FUNCTIONS: &str = "\
 [ ] station initialization: remote initialization
 [ ] cyclic data transmission
 [x] read procedure
@@ -129,129 +109,144 @@ any other that a client sends: 44 is sent with P/N 1
 [ ] station interrogation: groups 1 to 16
 [ ] integrated totals: modes A, B, C and D; freeze, reset; groups 1 to 4
 [x] integrated totals: counter read, general request counter
-[ ] clock synchronization
-";
+[ ] clock synchronization";
+
+const NETWORK: &str = "\
+[x] connections of clients at a time: 8, each with its own data transfer, windows, timers and queue
+[ ] redundancy groups; serial X.21 interface; other selections from RFC 2200
+[ ] TLS (IEC 62351-3), secure authentication";
 
 /// Writes the list with the values of settings.
-pub(crate) fn write_sheet<W: Write>(settings: &Settings, writer: &mut W) -> io::Result<()> {
+pub(crate) fn write_sheet<F: Form>(settings: &Settings, form: &mut F) -> io::Result<()> {
     let (station, rows, controls) = (settings.station(), settings.rows(), settings.controls());
-    write_device(settings.known_addresses(), writer)?;
-    write_point_types(rows, writer)?;
-    write_command_types(controls, writer)?;
-    write_functions(station, writer)?;
-    write_command_transmission(controls, station.select_ms, writer)?;
-    write_limits(station, writer)?;
-    write_network(station, writer)
+    write_device(form)?;
+    write_addresses(settings.known_addresses(), form)?;
+    write_point_types(rows, form)?;
+    write_command_types(controls, form)?;
+    write_system(form)?;
+    write_causes(rows, controls, form)?;
+    write_functions(station, form)?;
+    write_command_transmission(controls, station.select_ms, form)?;
+    write_limits(station, form)?;
+    write_network(station, form)
 }
 
-/// Writes what the station is, and by which common addresses it is addressed.
-fn write_device<W: Write>(known: &[u16], writer: &mut W) -> io::Result<()> {
-    writer.write_all(DEVICE.as_bytes())?;
-    for common_address in known {
-        write!(writer, " {common_address}")?;
+/// Writes what the station is.
+fn write_device<F: Form>(form: &mut F) -> io::Result<()> {
+    form.chapter("Interoperability of the controlled station, IEC 60870-5-104, clause 9")?;
+    form.note("A line with x is used with these settings, another isn't.")?;
+    form.chapter("9.1 System or device")?;
+    write_marks(DEVICE, form)?;
+    form.chapter("9.2 Network configuration, 9.3 physical layer, 9.4 link layer")?;
+    form.mark(false, "serial lines of IEC 60870-5-101: not applicable")
+}
+
+/// Writes by which common addresses the station is addressed, and how long addresses and causes are.
+fn write_addresses<F: Form>(known: &[u16], form: &mut F) -> io::Result<()> {
+    form.chapter("9.5 Application layer")?;
+    form.mark(true, "transmission mode 1: least significant octet first")?;
+    form.mark(false, "common address of ASDU: one octet")?;
+    form.mark(
+        true,
+        format_args!("common address of ASDU: two octets:{}", Numbers(known)),
+    )?;
+    write_marks(ADDRESSES, form)
+}
+
+/// Numbers, with a space in front of each.
+#[derive(Clone, Copy)]
+struct Numbers<'a>(&'a [u16]);
+
+impl<'a> fmt::Display for Numbers<'a> {
+    fn fmt<W: fmt::Write>(&self, f: &mut fmt::Formatter<W>) -> fmt::Result {
+        for number in self.0 {
+            write!(f, " {number}")?;
+        }
+        Ok(())
     }
-    writer.write_all(ADDRESSES.as_bytes())
 }
 
 /// Writes the types of process information in monitor direction, of which those are used that a point has.
-fn write_point_types<W: Write>(rows: &[Row], writer: &mut W) -> io::Result<()> {
-    writer.write_all(b"\nProcess information in monitor direction\n")?;
+fn write_point_types<F: Form>(rows: &[Row], form: &mut F) -> io::Result<()> {
+    form.chapter("Process information in monitor direction")?;
     for listed in &POINT_TYPES {
-        write_type(listed, rows, writer)?;
+        write_type(listed, rows, form)?;
     }
     Ok(())
 }
 
 /// Writes a type of a way to show a point, and those behind it.
-fn write_type<W: Write>(listed: &Listed, rows: &[Row], writer: &mut W) -> io::Result<()> {
+fn write_type<F: Form>(listed: &Listed, rows: &[Row], form: &mut F) -> io::Result<()> {
     let types = point_types(listed.show);
-    let (name, tag) = if listed.is_timed {
-        (types.timed, ", with CP56Time2a")
+    let (name, about, tag) = if listed.is_timed {
+        (types.timed, types.about, ", with CP56Time2a")
     } else {
-        (types.untimed, "")
+        (types.untimed, types.about, "")
     };
-    let mark = mark_of(rows, listed.show);
-    write_parts(
-        &[
-            mark,
-            name,
-            " ",
-            types.about,
-            tag,
-            "\n",
-            listed.unused_behind,
-        ],
-        writer,
-    )
+    form.mark(
+        is_shown(rows, listed.show),
+        format_args!("{name} {about}{tag}"),
+    )?;
+    write_marks(listed.unused_behind, form)
 }
 
-/// Writes parts of a text, one after the other.
-fn write_parts<W: Write>(parts: &[&str], writer: &mut W) -> io::Result<()> {
-    for part in parts {
-        writer.write_all(part.as_bytes())?;
-    }
-    Ok(())
+/// Writes the types of system information and others.
+fn write_system<F: Form>(form: &mut F) -> io::Result<()> {
+    form.chapter("System information, parameters and file transfer")?;
+    write_marks(SYSTEM, form)
 }
 
-/// What stands in front of the types of a way to show a point.
-fn mark_of(rows: &[Row], show: Show) -> &'static str {
-    if rows.iter().any(|row| row.show == show) {
-        "[x] "
-    } else {
-        "[ ] "
-    }
-}
-
-/// Writes what the station does, and by how many minutes its clock is ahead of UTC.
-fn write_functions<W: Write>(station: &Station, writer: &mut W) -> io::Result<()> {
-    writer.write_all(FUNCTIONS.as_bytes())?;
-    write_offset(station.offset_minutes, writer)?;
+/// Writes what the station does, and which clock its time tags have.
+fn write_functions<F: Form>(station: &Station, form: &mut F) -> io::Result<()> {
+    form.chapter("9.6 Basic application functions")?;
+    write_marks(FUNCTIONS, form)?;
+    let minutes = station.offset_minutes;
     match TimeZone::posix(station.rule_text.as_str()).map(|zone| zone.to_plain()) {
-        Ok(jiff_tz::TimeZone::Posix(rule)) => write_rule(&rule, writer),
-        _ => writer.write_all(b"the whole year round\n"),
+        Ok(jiff_tz::TimeZone::Posix(rule)) => write_rule(minutes, &rule, form),
+        _ => form.mark(
+            true,
+            format_args!(
+                "time tags CP56Time2a: {minutes} minutes ahead of UTC, the whole year round"
+            ),
+        ),
     }
 }
 
-fn write_offset<W: Write>(offset_minutes: i16, writer: &mut W) -> io::Result<()> {
-    write!(
-        writer,
-        "[x] time tags CP56Time2a: {offset_minutes} minutes ahead of UTC, "
+/// Writes that time tags have summer time.
+fn write_rule<F: Form>(minutes: i16, rule: &posix::TimeZone, form: &mut F) -> io::Result<()> {
+    form.mark(
+        true,
+        format_args!(
+            "time tags CP56Time2a: {minutes} minutes ahead of UTC, 60 more with SU by the rule {rule}"
+        ),
     )
-}
-
-fn write_rule<W: Write>(rule: &posix::TimeZone, writer: &mut W) -> io::Result<()> {
-    writeln!(writer, "60 more with SU by the rule {rule}")
 }
 
 /// Writes the time-outs and the windows.
-fn write_limits<W: Write>(station: &Station, writer: &mut W) -> io::Result<()> {
+fn write_limits<F: Form>(station: &Station, form: &mut F) -> io::Result<()> {
     let (t1, t2, t3) = (station.t1_ms, station.t2_ms, station.t3_ms);
     let (k, w) = (station.k, station.w);
-    writeln!(
-        writer,
-        "
-Time-outs and windows
-[ ] t0: clients open the connections
-[x] t1: {t1} ms (15 s in the standard)
-[x] t2: {t2} ms (10 s in the standard)
-[x] t3: {t3} ms (20 s in the standard)
-[x] k: {k} (12 in the standard)
-[x] w: {w} (8 in the standard)"
-    )
+    form.chapter("Time-outs and windows")?;
+    form.mark(false, "t0: clients open the connections")?;
+    form.mark(true, format_args!("t1: {t1} ms (15 s in the standard)"))?;
+    form.mark(true, format_args!("t2: {t2} ms (10 s in the standard)"))?;
+    form.mark(true, format_args!("t3: {t3} ms (20 s in the standard)"))?;
+    form.mark(true, format_args!("k: {k} (12 in the standard)"))?;
+    form.mark(true, format_args!("w: {w} (8 in the standard)"))
 }
 
 /// Writes where the station listens, and what it keeps for each client.
-fn write_network<W: Write>(station: &Station, writer: &mut W) -> io::Result<()> {
+fn write_network<F: Form>(station: &Station, form: &mut F) -> io::Result<()> {
     let listen = Plain(station.listen.as_str());
     let queue = station.queue;
-    writeln!(
-        writer,
-        "
-Ports, redundancy and networks
-[x] listening over TCP: {listen} (port 2404 in the standard)
-[x] spontaneous observations that may wait for each client: {queue}
-[x] connections of clients at a time: 8, each with its own data transfer, windows, timers and queue
-[ ] redundancy groups; serial X.21 interface; other selections from RFC 2200
-[ ] TLS (IEC 62351-3), secure authentication"
-    )
+    form.chapter("Ports, redundancy and networks")?;
+    form.mark(
+        true,
+        format_args!("listening over TCP: {listen} (port 2404 in the standard)"),
+    )?;
+    form.mark(
+        true,
+        format_args!("spontaneous observations that may wait for each client: {queue}"),
+    )?;
+    write_marks(NETWORK, form)
 }

@@ -1,112 +1,86 @@
-//! The signals of the station: its outstations, and a line for each point and each control.
+//! The signals of the station: a line for each point and each control, which is ticked when it was tried.
 
-use crate::types::{PointTypes, command_type, point_types};
+use crate::form::{Cell, Column, Form};
+use crate::types::{command_type, point_types};
 use crate::words::mode_word;
-use gw_map::{Control, Operates, Outstation, Pulses, Rest, Row, Scale, Settings, Show};
+use gw_map::{Control, Operates, Row, Show};
 use gw_model::{Kind, PointKey};
-use gw_names::{Behind, Names};
-use gw_text::Plain;
-use std::fmt;
-use std::io::{self, Write};
+use gw_names::Names;
+use std::io;
 
-/// Writes the outstations, the points and the controls, in the order of the file.
-pub(crate) fn write_signals<W: Write>(
-    settings: &Settings,
-    names: &Names,
-    writer: &mut W,
-) -> io::Result<()> {
-    write_outstations(settings.outstations(), names, writer)?;
-    write_points(settings.rows(), names, writer)?;
-    write_controls(settings.controls(), names, writer)
-}
+const OF_POINTS: [Column; 10] = [
+    Column::Words("tried", 5),
+    Column::Numbers("common", 6),
+    Column::Numbers("address", 8),
+    Column::Words("without time", 12),
+    Column::Words("with time", 12),
+    Column::Numbers("outstation", 10),
+    Column::Words("DNP3 object", 21),
+    Column::Numbers("index", 5),
+    Column::Words("scaling", 0),
+    Column::Words("name", 0),
+];
 
-fn write_outstations<W: Write>(
-    outstations: &[Outstation],
-    names: &Names,
-    writer: &mut W,
-) -> io::Result<()> {
-    let count = outstations.len();
-    writeln!(
-        writer,
-        "\nOutstations (DNP3): {count}\noutstation  link address  common address  connection"
-    )?;
-    for (position, outstation) in (0u8..).zip(outstations) {
-        write_outstation(position, outstation, names.of_outstation(position), writer)?;
-    }
-    Ok(())
-}
+const OF_CONTROLS: [Column; 11] = [
+    Column::Words("tried", 5),
+    Column::Numbers("common", 6),
+    Column::Numbers("address", 8),
+    Column::Words("type", 12),
+    Column::Numbers("outstation", 10),
+    Column::Words("DNP3 object", 21),
+    Column::Numbers("index", 5),
+    Column::Words("select", 6),
+    Column::Words("operate", 7),
+    Column::Words("effect", 0),
+    Column::Words("name", 0),
+];
 
-fn write_outstation<W: Write>(
-    position: u8,
-    outstation: &Outstation,
-    name: Option<&str>,
-    writer: &mut W,
-) -> io::Result<()> {
-    let (address, common_address) = (outstation.address, outstation.common_address);
-    let (connect, name) = (Plain(outstation.connect.as_str()), Behind(name));
-    writeln!(
-        writer,
-        "{position:>10}  {address:>12}  {common_address:>14}  {connect}{name}"
-    )
-}
-
-fn write_points<W: Write>(rows: &[Row], names: &Names, writer: &mut W) -> io::Result<()> {
-    let count = rows.len();
-    writeln!(
-        writer,
-        "
-Signals in monitor direction: {count}
- address  without time  with time     outstation  DNP3 object            index  scaling"
-    )?;
+/// Writes the points, in the order of the file.
+pub(crate) fn write_points<F: Form>(rows: &[Row], names: &Names, form: &mut F) -> io::Result<()> {
+    form.wide_chapter("Signals in monitor direction")?;
+    write_count(rows.len(), form)?;
+    form.table(&OF_POINTS)?;
     for row in rows {
-        write_point(
-            row,
-            names.of_object(row.common_address, row.address),
-            writer,
-        )?;
+        let name = names.of_object(row.common_address, row.address);
+        write_point(row, name, form)?;
     }
     Ok(())
 }
 
-fn write_point<W: Write>(row: &Row, name: Option<&str>, writer: &mut W) -> io::Result<()> {
+/// Writes how many signals there are, and the place for how many were tried.
+fn write_count<F: Form>(count: usize, form: &mut F) -> io::Result<()> {
+    form.note(format_args!("There are {count}, of which tried: ________"))
+}
+
+fn write_point<F: Form>(row: &Row, name: Option<&str>, form: &mut F) -> io::Result<()> {
     let PointKey {
         outstation,
         kind,
         index,
     } = row.key;
-    write_types(row.address, point_types(row.show), writer)?;
-    write_object(outstation, object_words(kind), index, writer)?;
-    write_scaling(row.show, row.scale, Behind(name), writer)
+    let types = point_types(row.show);
+    form.row(
+        Cell::Blank,
+        &[
+            Cell::Number(u64::from(row.common_address)),
+            Cell::Number(u64::from(row.address)),
+            Cell::Word(types.untimed),
+            Cell::Word(types.timed),
+            Cell::Number(u64::from(outstation)),
+            Cell::Word(object_words(kind)),
+            Cell::Number(u64::from(index)),
+            scaling_of(row),
+            Cell::Name(name),
+        ],
+    )
 }
 
-/// Writes where a point is shown, and by which types.
-fn write_types<W: Write>(address: u32, types: PointTypes, writer: &mut W) -> io::Result<()> {
-    let (untimed, timed) = (types.untimed, types.timed);
-    write!(writer, "{address:>8}  {untimed:<12}  {timed:<12}  ")
-}
-
-/// Writes what a signal is at its outstation: an object of DNP3, and its index.
-fn write_object<W: Write>(
-    outstation: u8,
-    object: &str,
-    index: u16,
-    writer: &mut W,
-) -> io::Result<()> {
-    write!(writer, "{outstation:>10}  {object:<21}  {index:>5}  ")
-}
-
-/// Writes what a point's value is multiplied by, and the end of its line.
-fn write_scaling<W: Write>(
-    show: Show,
-    scale: Scale,
-    name: Behind<'_>,
-    writer: &mut W,
-) -> io::Result<()> {
-    match show {
-        Show::Scaled => write!(writer, "{}", Factor(scale))?,
-        Show::Single | Show::Double | Show::Word | Show::Total => writer.write_all(b"none")?,
+/// What a point's value is multiplied by.
+fn scaling_of(row: &Row) -> Cell<'static> {
+    match row.show {
+        Show::Scaled => Cell::Factor(row.scale),
+        Show::Single | Show::Double | Show::Word | Show::Total => Cell::Word("none"),
     }
-    writeln!(writer, "{name}")
 }
 
 /// What a kind of point is called in the object library of DNP3.
@@ -120,31 +94,39 @@ fn object_words(kind: Kind) -> &'static str {
     }
 }
 
-fn write_controls<W: Write>(controls: &[Control], names: &Names, writer: &mut W) -> io::Result<()> {
-    let count = controls.len();
-    writeln!(
-        writer,
-        "
-Signals in control direction: {count}
- address  type          outstation  DNP3 object            index  select  operate  effect"
-    )?;
+/// Writes the controls, in the order of the file.
+pub(crate) fn write_controls<F: Form>(
+    controls: &[Control],
+    names: &Names,
+    form: &mut F,
+) -> io::Result<()> {
+    form.wide_chapter("Signals in control direction")?;
+    write_count(controls.len(), form)?;
+    form.table(&OF_CONTROLS)?;
     for control in controls {
         let name = names.of_object(control.common_address, control.address);
-        write_control(control, name, writer)?;
+        write_control(control, name, form)?;
     }
     Ok(())
 }
 
-fn write_control<W: Write>(
-    control: &Control,
-    name: Option<&str>,
-    writer: &mut W,
-) -> io::Result<()> {
-    let (address, command) = (control.address, command_type(control.operates));
-    let object = output_words(control.operates);
-    write!(writer, "{address:>8}  {command:<12}  ")?;
-    write_object(control.outstation, object, control.index, writer)?;
-    write_operation(control, Behind(name), writer)
+fn write_control<F: Form>(control: &Control, name: Option<&str>, form: &mut F) -> io::Result<()> {
+    let select = if control.select { "yes" } else { "no" };
+    form.row(
+        Cell::Blank,
+        &[
+            Cell::Number(u64::from(control.common_address)),
+            Cell::Number(u64::from(control.address)),
+            Cell::Word(command_type(control.operates)),
+            Cell::Number(u64::from(control.outstation)),
+            Cell::Word(output_words(control.operates)),
+            Cell::Number(u64::from(control.index)),
+            Cell::Word(select),
+            Cell::Word(mode_word(control.mode)),
+            Cell::Effect(control.operates),
+            Cell::Name(name),
+        ],
+    )
 }
 
 /// What an output is called in the object library of DNP3.
@@ -153,54 +135,4 @@ fn output_words(operates: Operates) -> &'static str {
         Operates::Single(_) | Operates::Double(_) => "control relay output",
         Operates::Setpoint(_) => "analog output",
     }
-}
-
-/// Writes how an output is operated, and the end of its line.
-fn write_operation<W: Write>(
-    control: &Control,
-    name: Behind<'_>,
-    writer: &mut W,
-) -> io::Result<()> {
-    let select = if control.select { "yes" } else { "no" };
-    let (mode, effect) = (mode_word(control.mode), Effect(control.operates));
-    writeln!(writer, "{select:<6}  {mode:<7}  {effect}{name}")
-}
-
-/// What a value is multiplied by, as a fraction.
-#[derive(Clone, Copy)]
-struct Factor(Scale);
-
-impl fmt::Display for Factor {
-    fn fmt<W: fmt::Write>(&self, f: &mut fmt::Formatter<W>) -> fmt::Result {
-        let scale = self.0;
-        write!(f, "{}/{}", scale.num, scale.den)
-    }
-}
-
-/// What a command does.
-#[derive(Clone, Copy)]
-struct Effect(Operates);
-
-impl fmt::Display for Effect {
-    fn fmt<W: fmt::Write>(&self, f: &mut fmt::Formatter<W>) -> fmt::Result {
-        match self.0 {
-            Operates::Single(pulses) | Operates::Double(pulses) => write_pulses(f, pulses),
-            Operates::Setpoint(scale) => write_factor(f, Factor(scale)),
-        }
-    }
-}
-
-/// Writes what a set point is multiplied by.
-fn write_factor<W: fmt::Write>(f: &mut fmt::Formatter<W>, factor: Factor) -> fmt::Result {
-    write!(f, "value times {factor}")
-}
-
-/// Writes how an output rests, and how long it is on, by the qualifier of the command, QU.
-fn write_pulses<W: fmt::Write>(f: &mut fmt::Formatter<W>, pulses: Pulses) -> fmt::Result {
-    let rest = match pulses.rest {
-        Rest::Latch => "latch",
-        Rest::Short => "short pulse",
-    };
-    let (short, long) = (pulses.short_ms, pulses.long_ms);
-    write!(f, "QU 0 {rest}; QU 1 {short} ms; QU 2 {long} ms")
 }

@@ -1,6 +1,12 @@
 //! The types of ASDU by which points are shown and controls are commanded (IEC 60870-5-101, 7.2.1).
 
-use gw_map::{Operates, Show};
+use gw_map::{Operates, Row, Show};
+
+pub(crate) const SINGLE_COMMAND: &str = "45 C_SC_NA_1";
+
+pub(crate) const DOUBLE_COMMAND: &str = "46 C_DC_NA_1";
+
+pub(crate) const SETPOINT_COMMAND: &str = "49 C_SE_NB_1";
 
 /// The types of process information by which a point is shown: number and name.
 #[derive(Clone, Copy)]
@@ -47,8 +53,13 @@ pub(crate) fn point_types(show: Show) -> PointTypes {
 /// The type by which clients command a control: number and name.
 pub(crate) fn command_type(operates: Operates) -> &'static str {
     match operates {
-        Operates::Single(_) => "45 C_SC_NA_1",
-        Operates::Double(_) => "46 C_DC_NA_1",
-        Operates::Setpoint(_) => "49 C_SE_NB_1",
+        Operates::Single(_) => SINGLE_COMMAND,
+        Operates::Double(_) => DOUBLE_COMMAND,
+        Operates::Setpoint(_) => SETPOINT_COMMAND,
     }
+}
+
+/// Whether a point is shown by these types.
+pub(crate) fn is_shown(rows: &[Row], show: Show) -> bool {
+    rows.iter().any(|row| row.show == show)
 }

@@ -7,8 +7,10 @@ mod shown;
 
 use crate::running::run;
 use clap::error::ErrorKind;
-use gw_command_line::{Asked, LineFault, command_line as read_words};
-use gw_commands::{USAGE, check, pcap, points, refuse_for, replay, translate};
+use gw_command_line::{Asked, LineFault, VERSION, command_line as read_words};
+use gw_commands::{
+    CheckForm, USAGE, check, commit_of, pcap, points, refuse_for, replay, translate,
+};
 use gw_server::Host;
 use std::net::{Net, TcpListener, TcpStream};
 use std::process::ExitCode;
@@ -47,8 +49,9 @@ fn answer<H: Host>(rt: &HostRuntime, host: &H, asked: Asked) -> io::Result<u8> {
         Asked::Check {
             file,
             profile,
+            profile_html,
             names,
-        } => check(rt, file, names, profile),
+        } => check(rt, file, CheckForm::of(profile, profile_html), names),
         Asked::Points {
             file,
             site,
@@ -70,7 +73,7 @@ fn answer<H: Host>(rt: &HostRuntime, host: &H, asked: Asked) -> io::Result<u8> {
 fn tell(rt: &HostRuntime, fault: &LineFault) -> io::Result<u8> {
     match fault {
         LineFault::Clap(error) if error.kind() == ErrorKind::DisplayVersion => {
-            print!(rt; "{error}")?;
+            tell_version(rt)?;
             Ok(0)
         }
         LineFault::Clap(error) => {
@@ -78,5 +81,13 @@ fn tell(rt: &HostRuntime, fault: &LineFault) -> io::Result<u8> {
             Ok(USAGE)
         }
         LineFault::Memory => refuse_for(rt, "memory"),
+    }
+}
+
+/// Writes the version, and the commit where it is known.
+fn tell_version(rt: &HostRuntime) -> io::Result<()> {
+    match commit_of(rt) {
+        Some(commit) => println!(rt; "gateway {VERSION} (commit {})", commit.as_str().trim()),
+        None => println!(rt; "gateway {VERSION}"),
     }
 }

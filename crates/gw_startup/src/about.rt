@@ -1,8 +1,7 @@
 //! What is told of a run in each piece of its record.
 
-use crate::commit::commit_of;
 use gw_command_line::VERSION;
-use gw_commands::System;
+use gw_commands::{System, commit_of};
 use gw_text::Plain;
 use std::io;
 

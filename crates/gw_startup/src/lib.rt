@@ -3,7 +3,6 @@
 #![tactic(auto)]
 
 mod about;
-mod commit;
 mod entrances;
 mod obstacle;
 mod record_files;
@@ -12,7 +11,6 @@ mod starting;
 mod system;
 mod unserved;
 
-pub use commit::commit_of;
 pub use entrances::Entrances;
 pub use gw_folder::{FolderPieces, PieceFiles};
 pub use record_files::{folder_files, record_files};

@@ -21,11 +21,15 @@ pub fn lines()
         ≡ Some (to_replay (codes "a")) }
     ensures check_taken { fault_of gateway (codes "gateway" ∷ codes "check" ∷ codes "a" ∷ []) ≡ [] }
     ensures check_spelled { spelled (codes "gateway" ∷ codes "check" ∷ codes "a" ∷ [])
-        ≡ Some (to_check (codes "a") false None) }
+        ≡ Some (to_check (codes "a") false false None) }
     ensures profile_taken { fault_of gateway (codes "gateway" ∷ codes "check" ∷ codes "a" ∷ codes "--profile" ∷ [])
         ≡ [] }
     ensures profile_spelled { spelled (codes "gateway" ∷ codes "check" ∷ codes "a" ∷ codes "--profile" ∷ [])
-        ≡ Some (to_check (codes "a") true None) }
+        ≡ Some (to_check (codes "a") true false None) }
+    ensures html_taken { fault_of gateway
+        (codes "gateway" ∷ codes "check" ∷ codes "a" ∷ codes "--profile-html" ∷ []) ≡ [] }
+    ensures html_spelled { spelled (codes "gateway" ∷ codes "check" ∷ codes "a" ∷ codes "--profile-html" ∷ [])
+        ≡ Some (to_check (codes "a") false true None) }
     ensures no_file { fault_of gateway (codes "gateway" ∷ codes "check" ∷ []) ≡ MissingRequiredArgument ∷ [] }
     ensures alone { fault_of gateway (codes "gateway" ∷ []) ≡ MissingSubcommand ∷ [] }
     ensures unknown { fault_of gateway (codes "gateway" ∷ codes "nonsense" ∷ [])
@@ -48,7 +52,7 @@ pub fn list_lines()
     ensures names_taken { fault_of gateway
         (codes "gateway" ∷ codes "check" ∷ codes "a" ∷ codes "--names" ∷ codes "b" ∷ []) ≡ [] }
     ensures names_spelled { spelled (codes "gateway" ∷ codes "check" ∷ codes "a" ∷ codes "--names" ∷ codes "b" ∷ [])
-        ≡ Some (to_check (codes "a") false (Some (codes "b"))) }
+        ≡ Some (to_check (codes "a") false false (Some (codes "b"))) }
 {}
 
 /// Lines of `gateway run`: two that ask for something, and two that are refused.

@@ -1,6 +1,6 @@
 //! The commit that the program is built from, as far as a file beside it tells it.
 
-use gw_commands::System;
+use crate::system::System;
 use std::{env, fs, io};
 
 /// The name of the file beside the program that tells it.
