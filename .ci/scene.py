@@ -58,6 +58,8 @@ KINDS = {
         STANDSTILL,
         r"[\d.]+ isn't allowed to connect(, and \d+ more)?",
         r"the recording ended at step \d+: .+",
+        r"events aren't written: .+",
+        r"\d+ observations? left out of the events",
         r"\d+ events? left out",
         *(rf"outstation \d+ \S+ {re.escape(it)}" for it in TROUBLES),
         COUNTS,
@@ -75,6 +77,7 @@ KINDS = {
         r"gateway \S+ started: .+",
         r"listening on \S+",
         FREE,
+        "events are written again",
         r"outstation \d+ \S+ (connected|closed: the gateway ends)",
         r"outstation \d+ \S+ order \d+ (given: [0-9A-F ]+|done)",
         r"client \d \S+ (connected|data transfer (started|stopped)|closed: the gateway ends)",
@@ -273,7 +276,7 @@ class Scene:
         self.sessions = sessions
         self.run(file, *(["--sessions", str(sessions)] if sessions else ["--until-eof"]), *options)
         threading.Thread(target=self.hear, daemon=True).start()
-        self.told(start_line(file))
+        self.told(start_line(file) + ("; the status shows values of points" if "--values" in options else ""))
         self.port = int(self.told(f"listening on {listen}")[0].split(":")[-1])
 
     def hear(self):

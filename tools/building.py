@@ -121,12 +121,13 @@ def install(built, program, begun):
     """Puts a program where it is looked for: whole or not at all, with the time at which its build began, so that what was
     edited meanwhile is newer, and with the name of the toolchain."""
     program.parent.mkdir(parents=True, exist_ok=True)
-    Path(f"{program}.toolchain").write_text(toolchain())
     new = Path(f"{program}.new")
     shutil.copyfile(built, new)
     new.chmod(0o755)
     os.utime(new, (begun, begun))
     new.replace(program)
+    # Behind the program: where a crash comes between the two, it counts as one of the toolchain that was named before.
+    Path(f"{program}.toolchain").write_text(toolchain())
 
 
 def run_builder(build):

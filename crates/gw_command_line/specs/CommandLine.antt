@@ -92,6 +92,12 @@ run =
 abbrev pub recording : App
 recording = fold with_rule run (text_rule (codes "record-folder") ∷ number_rule (codes "record-keep") ∷ [])
 
+-- the same with `[--values] [--events FILE] [--events-keep MB]`
+abbrev pub following : App
+following =
+    fold with_rule recording
+    (flag_rule (codes "values") ∷ text_rule (codes "events") ∷ number_rule (codes "events-keep") ∷ [])
+
 -- the program: a subcommand has to be named, and it has a version
 abbrev pub alone : App
 alone = on_top (λ top. record top { subcommand_required = true; has_version = true }) (new_app (codes "gateway"))
@@ -103,7 +109,7 @@ gateway =
     (with_subcommand
     (with_subcommand (with_subcommand (with_subcommand alone check.top) points.top) translate.top) replay.top)
     pcap.top)
-    recording.top
+    following.top
 
 -- ---- what it asks for
 
@@ -119,6 +125,9 @@ pub record Options : Type 0 where
   pub names : Option Text
   pub record_folder : Option Text
   pub record_keep : Option ℕ
+  pub values : Bool
+  pub events : Option Text
+  pub events_keep : Option ℕ
 
 -- the same where none of them is used
 abbrev pub no_options : Options
@@ -134,6 +143,9 @@ no_options =
       names = None;
       record_folder = None;
       record_keep = None;
+      values = false;
+      events = None;
+      events_keep = None;
     }
 
 abbrev pub options_of : RunOptions → Options
@@ -148,6 +160,9 @@ options_of options = record {
   names = option_map (λ list. list.now) options.names;
   record_folder = option_map (λ folder. folder.now) options.record_folder;
   record_keep = options.record_keep;
+  values = options.values;
+  events = option_map (λ file. file.now) options.events;
+  events_keep = options.events_keep;
 }
 
 -- what is asked for, with the words that name files and addresses, whether the profile is, as text and in HTML, and whether a
@@ -213,6 +228,9 @@ options_in rows = record {
   names = first_of (codes "names") rows;
   record_folder = first_of (codes "record-folder") rows;
   record_keep = number_in (codes "record-keep") rows;
+  values = is_used (codes "values") rows;
+  events = first_of (codes "events") rows;
+  events_keep = number_in (codes "events-keep") rows;
 }
 
 abbrev pub run_in : List Row → Request

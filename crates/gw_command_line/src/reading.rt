@@ -7,7 +7,7 @@ ghost use Rattle.std.specs.Prelude.{◌≡◌, [], IfErr, IfOk, Some, false, map
 ghost use Rattle.clap.specs.Words.{App, Rule, app_of, fault_of, first_of, found_of, rows_of, rule_of, subcommand_rows_of, with_rule, with_subcommand};
 ghost use Rattle.clap.specs.Walk.{texts};
 ghost use Rattle.clap.specs.declared.builder.command.Command.TheViews.{out-Command as fields_of};
-ghost use Rattle.gw_command_line.specs.CommandLine.{IsRefusal, alone, as_fault, asked_of, check, check_in, file_app, file_in, file_rule, flag_rule, gateway, is_used, number_from, number_in, number_of, number_rule, options_in, options_of, out_in, out_rule, pcap, points, points_in, recording, request_of, run, run_in, serve, shown, spelled, text_rule, texts_in, texts_rule, translate};
+ghost use Rattle.gw_command_line.specs.CommandLine.{IsRefusal, alone, as_fault, asked_of, check, check_in, file_app, file_in, file_rule, flag_rule, following, gateway, is_used, number_from, number_in, number_of, number_rule, options_in, options_of, out_in, out_rule, pcap, points, points_in, recording, request_of, run, run_in, serve, shown, spelled, text_rule, texts_in, texts_rule, translate};
 ghost use Rattle.gw_command_line.specs.declared.reading.LineFault.TheVariants.{Memory};
 
 use clap::error::ErrorKind;
@@ -93,6 +93,12 @@ pub struct RunOptions<'a> {
     pub record_folder: Option<&'a str>,
     /// `--record-keep MB`: the most megabytes that the runs of this folder may have together.
     pub record_keep: Option<u32>,
+    /// `--values`: the status shows the values of points.
+    pub values: bool,
+    /// `--events FILE`: the file or the named pipe to which each spontaneous observation is written as a line.
+    pub events: Option<&'a str>,
+    /// `--events-keep MB`: the most megabytes that this file and those before it may have together.
+    pub events_keep: Option<u32>,
 }
 
 /// Why a command line asks for nothing.
@@ -164,7 +170,7 @@ fn gateway_command<'a>(alloc: Global) -> Result<Command<'a>, AllocError>
     let program = with_subcommand(program, translate_command(alloc));
     let program = with_subcommand(program, replay);
     let program = with_subcommand(program, pcap_command(alloc));
-    with_subcommand(program, recording_command(alloc))
+    with_subcommand(program, following_command(alloc))
 }
 
 /// The program with a subcommand more.
@@ -366,7 +372,7 @@ fn run_command<'a>(alloc: Global) -> Result<Command<'a>, AllocError>
     with_argument(command, names)
 }
 
-/// `gateway run`, with all its options.
+/// `gateway run`, with the options that say which records it keeps.
 fn recording_command<'a>(alloc: Global) -> Result<Command<'a>, AllocError>
     ensures app { IfOk result (λ command. app_of command ≡ recording) }
     ensures local { IfOk result (λ command. (fields_of command).has_globals ≡ false) }
@@ -384,6 +390,29 @@ fn recording_command<'a>(alloc: Global) -> Result<Command<'a>, AllocError>
         "The most megabytes that the runs of --record-folder may have together, 1 to 1000000; the oldest go first",
     );
     let command = with_argument(run_command(alloc), folder);
+    with_argument(command, keep)
+}
+
+/// `gateway run`, with all its options: those besides that say who may follow the values of points.
+fn following_command<'a>(alloc: Global) -> Result<Command<'a>, AllocError>
+    ensures app { IfOk result (λ command. app_of command ≡ following) }
+    ensures local { IfOk result (λ command. (fields_of command).has_globals ≡ false) }
+{
+    let values = flag_argument(alloc, "values", "The status shows the values of points");
+    let events = text_argument(
+        alloc,
+        "events",
+        "FILE",
+        "Writes each spontaneous observation to this file or named pipe, as a line of CSV",
+    );
+    let keep = number_argument(
+        alloc,
+        "events-keep",
+        "MB",
+        "The most megabytes that FILE of --events, FILE.1 and so on may have together, 1 to 1000000",
+    );
+    let command = with_argument(recording_command(alloc), values);
+    let command = with_argument(command, events);
     with_argument(command, keep)
 }
 
@@ -546,6 +575,9 @@ fn options_named<'a>(alloc: Global, matches: &ArgMatches<'a>) -> Result<RunOptio
         names: text_named(matches, "names"),
         record_folder: text_named(matches, "record-folder"),
         record_keep: number_named(matches, "record-keep"),
+        values: flag_named(matches, "values"),
+        events: text_named(matches, "events"),
+        events_keep: number_named(matches, "events-keep"),
     })
 }
 

@@ -13,6 +13,9 @@ pub enum FileFailure {
     /// A folder stands there.
     #[error("it is a folder")]
     Folder,
+    /// Neither a file nor a named pipe stands there.
+    #[error("it is neither a file nor a named pipe")]
+    Device,
     /// Something else than a folder stands there, or in front of it.
     #[error("it is no folder")]
     NoFolder,

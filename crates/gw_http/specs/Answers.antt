@@ -2,9 +2,9 @@
 use Rattle.std.specs.Prelude.{ℕ, Bool, List, [], ◌∷◌, ◌++◌, codes, if◌then◌else◌, length}
 use Rattle.std.specs.Fmt.{decimal}
 use Rattle.gw_http.specs.declared.request.Resource.{Resource}
-use Rattle.gw_http.specs.declared.request.Resource.TheVariants.{Alive, Health, Metrics, Page}
+use Rattle.gw_http.specs.declared.request.Resource.TheVariants.{Alive, Health, Metrics, Page, Points, PointsCsv, PointsJson}
 use Rattle.gw_http.specs.declared.request.RequestFault.{RequestFault}
-use Rattle.gw_http.specs.declared.request.RequestFault.TheVariants.{Malformed, NotAllowed, NotFound, TooLong}
+use Rattle.gw_http.specs.declared.request.RequestFault.TheVariants.{Busy, Malformed, NotAllowed, NotFound, OddQuery, TooLong}
 
 -- the end of a line
 abbrev pub line_end : List ℕ
@@ -32,6 +32,9 @@ content_of Page = codes "text/html; charset=utf-8"
 content_of Metrics = codes "text/plain; version=0.0.4; charset=utf-8"
 content_of Alive = codes "text/plain; charset=utf-8"
 content_of Health = codes "text/plain; charset=utf-8"
+content_of Points = codes "text/html; charset=utf-8"
+content_of PointsCsv = codes "text/csv; charset=utf-8"
+content_of PointsJson = codes "application/json"
 
 -- the status code of an answer, with its words: by whether what is asked about is well
 abbrev pub outcome_of : Bool → List ℕ
@@ -42,11 +45,14 @@ abbrev pub line_of : RequestFault → List ℕ
 line_of Malformed = codes "400 Bad Request"
 line_of NotFound = codes "404 Not Found"
 line_of NotAllowed = codes "405 Method Not Allowed"
+line_of OddQuery = codes "400 Query Not Known"
+line_of Busy = codes "503 Service Unavailable"
 line_of TooLong = codes "431 Request Header Fields Too Large"
 
 -- the fields that a refusal has alone
 abbrev pub fields_of : RequestFault → List ℕ
 fields_of NotAllowed = codes "Allow: GET, HEAD" ++ line_end
+fields_of Busy = codes "Retry-After: 1" ++ line_end
 fields_of _ = []
 
 -- the octets of a refusal

@@ -6,7 +6,7 @@ use Rattle.std.specs.Str.{bytes_eq}
 use Rattle.httparse.specs.Grammar.{HasNoRequest, MayBecomeRequest, NeverHasRequest, ReadsRequest, RequestHead}
 use Rattle.httparse.specs.Spans.{RequestOverflows}
 use Rattle.gw_http.specs.declared.request.Resource.{Resource}
-use Rattle.gw_http.specs.declared.request.Resource.TheVariants.{Alive, Health, Metrics, Page}
+use Rattle.gw_http.specs.declared.request.Resource.TheVariants.{Alive, Health, Metrics, Page, Points, PointsCsv, PointsJson}
 use Rattle.gw_http.specs.declared.request.RequestFault.{RequestFault}
 use Rattle.gw_http.specs.declared.request.RequestFault.TheVariants.{Malformed, NotAllowed, NotFound, TooLong}
 use Rattle.gw_http.specs.declared.request.HttpRequest.{HttpRequest}
@@ -52,6 +52,9 @@ found_at path =
     else if bytes_eq path (codes "/metrics") then Ok Metrics
     else if bytes_eq path (codes "/alive") then Ok Alive
     else if bytes_eq path (codes "/health") then Ok Health
+    else if bytes_eq path (codes "/points") then Ok Points
+    else if bytes_eq path (codes "/points.csv") then Ok PointsCsv
+    else if bytes_eq path (codes "/points.json") then Ok PointsJson
     else Err NotFound
 
 abbrev pub is_head : List ℕ → Bool

@@ -1,5 +1,5 @@
 //! Answers to requests.
-ghost use Rattle.std.specs.Prelude.{◌≡◌, IfOk, [], string_bytes};
+ghost use Rattle.std.specs.Prelude.{◌≡◌, IfOk, string_bytes};
 ghost use Rattle.gw_http.specs.Answers.{content_of, fields_of, line_of, message, outcome_of, refused_by, sent_of};
 
 use crate::request::{RequestFault, Resource};
@@ -7,22 +7,23 @@ use gw_model::Memory;
 use std::alloc::Global;
 
 /// The octets that answer a request with the body that it asks for: as a success, or where what it asks about isn't well, as a
-/// failure of the server (RFC 9110, 15.6.4).
+/// failure of the server (RFC 9110, 15.6.4). `fields` are further ones, each with its line end.
 pub fn answer(
     alloc: Global,
     asked: Resource,
     is_head: bool,
     is_well: bool,
+    fields: &str,
     body: &str,
 ) -> Result<String, Memory>
     ensures { IfOk result (λ text. string_bytes text
-        ≡ message (outcome_of is_well) (content_of asked) [] body.now is_head) }
+        ≡ message (outcome_of is_well) (content_of asked) fields.now body.now is_head) }
 {
     message(
         alloc,
         outcome_of(is_well),
         content_of(asked),
-        "",
+        fields,
         body,
         is_head,
     )
@@ -44,9 +45,11 @@ fn content_of(asked: Resource) -> &'static str
     ensures { result.now ≡ content_of asked }
 {
     match asked {
-        Resource::Page => "text/html; charset=utf-8",
+        Resource::Page | Resource::Points => "text/html; charset=utf-8",
         Resource::Metrics => "text/plain; version=0.0.4; charset=utf-8",
         Resource::Alive | Resource::Health => "text/plain; charset=utf-8",
+        Resource::PointsCsv => "text/csv; charset=utf-8",
+        Resource::PointsJson => "application/json",
     }
 }
 
@@ -74,6 +77,8 @@ fn line_of(refusal: RequestFault) -> &'static str
         RequestFault::Malformed => "400 Bad Request",
         RequestFault::NotFound => "404 Not Found",
         RequestFault::NotAllowed => "405 Method Not Allowed",
+        RequestFault::OddQuery => "400 Query Not Known",
+        RequestFault::Busy => "503 Service Unavailable",
         RequestFault::TooLong => "431 Request Header Fields Too Large",
     }
 }
@@ -84,6 +89,7 @@ fn fields_of(refusal: RequestFault) -> &'static str
 {
     match refusal {
         RequestFault::NotAllowed => "Allow: GET, HEAD\r\n",
+        RequestFault::Busy => "Retry-After: 1\r\n",
         _ => "",
     }
 }

@@ -2,6 +2,7 @@
 ghost use Rattle.std.specs.Prelude.{◌≤◌, IfSome, length, take};
 ghost use Rattle.gw_http.specs.Requests.{IsAnswered, IsReceived, ReadsOn};
 
+use crate::query::Query;
 use crate::request::{HttpRequest, RequestFault};
 use httparse::spans::{EMPTY_HEADER_SPAN, parse_request};
 use httparse::{Error, Status};
@@ -15,15 +16,16 @@ pub const MOST_FIELDS: usize = 64;
 
 /// Reads a request; nothing where the end of the input, or a fault, comes before its head is whole.
 ///
-/// An interrupted read is tried again. What follows the head is not read, or read and dropped.
-pub fn receive<R: Read>(reader: &mut R) -> Option<HttpRequest>
+/// An interrupted read is tried again. What follows the head is not read, or read and dropped. `query` is what its target has
+/// behind the path.
+pub fn receive<R: Read>(reader: &mut R, query: &mut Query) -> Option<HttpRequest>
     ensures { IfSome result (λ request. IsReceived (R.remaining reader.old) (R.remaining reader.new) request) }
 {
     let mut octets = [0u8; MOST_OCTETS];
     let mut filled = 0;
     for _read in 0..u32::MAX {
         filled = read_more(reader, &mut octets, filled)?;
-        let request = request_in(&octets[..filled]);
+        let request = request_in(&octets[..filled], query);
         if request.is_some() {
             return request;
         }
@@ -48,13 +50,15 @@ fn read_more<R: Read>(reader: &mut R, octets: &mut [u8], filled: usize) -> Optio
 }
 
 /// What the octets that came so far are answered; nothing where more of them may make a request.
-fn request_in(octets: &[u8]) -> Option<HttpRequest>
+fn request_in(octets: &[u8], query: &mut Query) -> Option<HttpRequest>
     ensures { IsAnswered octets.now result }
 {
     let mut fields = [EMPTY_HEADER_SPAN; MOST_FIELDS];
     match parse_request(octets, &mut fields) {
         Ok(Status::Complete(head)) => {
-            Some(HttpRequest::of(head.method.of(octets), head.path.of(octets)))
+            let target = head.path.of(octets);
+            *query = Query::of(target);
+            Some(HttpRequest::of(head.method.of(octets), target))
         }
         Ok(Status::Partial) if octets.len() < MOST_OCTETS => None,
         Ok(Status::Partial) => Some(HttpRequest::refused(RequestFault::TooLong)),

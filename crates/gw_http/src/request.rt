@@ -15,6 +15,12 @@ pub enum Resource {
     Alive,
     /// `/health`: whether anything is wrong.
     Health,
+    /// `/points`: a page with the values of points.
+    Points,
+    /// `/points.csv`: the values of points, for a spreadsheet.
+    PointsCsv,
+    /// `/points.json`: the values of points, for a program.
+    PointsJson,
 }
 
 /// Why nothing is told.
@@ -29,6 +35,12 @@ pub enum RequestFault {
     /// The method is neither GET nor HEAD.
     #[error("neither GET nor HEAD")]
     NotAllowed,
+    /// The query behind the path isn't one that can be answered.
+    #[error("a query that isn't known")]
+    OddQuery,
+    /// As many requests of the kind are answered as may be at a time.
+    #[error("too many at a time")]
+    Busy,
     /// The head of the request has more than 4,096 octets or more than 64 fields.
     #[error("more than 4,096 octets or more than 64 fields")]
     TooLong,
@@ -123,6 +135,12 @@ fn found_at(path: &[u8]) -> Result<Resource, RequestFault>
         Ok(Resource::Alive)
     } else if path == b"/health".as_slice() {
         Ok(Resource::Health)
+    } else if path == b"/points".as_slice() {
+        Ok(Resource::Points)
+    } else if path == b"/points.csv".as_slice() {
+        Ok(Resource::PointsCsv)
+    } else if path == b"/points.json".as_slice() {
+        Ok(Resource::PointsJson)
     } else {
         Err(RequestFault::NotFound)
     }

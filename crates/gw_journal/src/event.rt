@@ -7,6 +7,7 @@ use crate::loss::Loss;
 use crate::stray::StrayFrames;
 use crate::unknown_asdu::UnknownAsdus;
 use crate::unreadable::Unreadable;
+use crate::write_trouble::WriteTrouble;
 use gw_names::Names;
 use gw_text::RecordEnd;
 use iec_command::Command;
@@ -40,6 +41,8 @@ pub enum JournalEvent {
         controls: usize,
         /// How many outstations.
         outstations: usize,
+        /// Whether the status shows the values of points.
+        shows_values: bool,
     },
     /// Something in the settings reads like a slip.
     Doubtful(Doubt),
@@ -209,6 +212,12 @@ pub enum JournalEvent {
     NotAccepted(Failure),
     /// The recording ended.
     RecordingEnded(RecordEnd),
+    /// Spontaneous observations can't be written.
+    EventsHindered(WriteTrouble),
+    /// They are written again.
+    EventsResumed,
+    /// So many of them weren't written.
+    EventsLeftOut(u64),
     /// The host stood still, as far as the gateway's clock tells.
     HostStoodStill {
         /// How long no tick was made.
@@ -253,6 +262,7 @@ impl JournalEvent {
             | JournalEvent::TransferStarted { .. }
             | JournalEvent::TransferStopped { .. }
             | JournalEvent::PlaceFree
+            | JournalEvent::EventsResumed
             | JournalEvent::Stopped => Priority::Information,
             JournalEvent::Doubtful(_)
             | JournalEvent::OutstationRestarted { .. }
@@ -270,6 +280,8 @@ impl JournalEvent {
             | JournalEvent::AllPlacesTaken { .. }
             | JournalEvent::NotAllowed { .. }
             | JournalEvent::RecordingEnded(_)
+            | JournalEvent::EventsHindered(_)
+            | JournalEvent::EventsLeftOut(_)
             | JournalEvent::HostStoodStill { .. }
             | JournalEvent::LeftOut(_) => Priority::Warning,
         }

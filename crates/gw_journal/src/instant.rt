@@ -1,6 +1,6 @@
 //! Times of day, as lines tell them.
 
-use jiff::Timestamp;
+use gw_status::Instant;
 use std::fmt;
 
 /// The milliseconds of a day, and of a minute.
@@ -10,19 +10,6 @@ const MINUTE_MS: u64 = 60_000;
 
 /// The milliseconds for which a time of day tells the day too: what it is told of may lie an hour back.
 const LONGEST_MS: u64 = 82_800_000;
-
-/// When something was, as `2023-11-14T22:13:20.000Z`; `-` past the year 9999.
-#[derive(Clone, Copy)]
-pub(crate) struct Instant(pub(crate) u64);
-
-impl fmt::Display for Instant {
-    fn fmt<W: fmt::Write>(&self, f: &mut fmt::Formatter<W>) -> fmt::Result {
-        match Timestamp::from_nanosecond(i128::from(self.0) * 1_000_000) {
-            Ok(instant) => write!(f, "{instant:.3}"),
-            Err(_) => f.write_str("-"),
-        }
-    }
-}
 
 /// Since when something is, in UTC, at a time when it still is: as the time of day, as `22:13`, where that tells the day
 /// too; else as an instant.

@@ -25,6 +25,7 @@ mod throttle;
 mod unknown_asdu;
 mod unreadable;
 mod waiting;
+mod write_trouble;
 
 pub use absence::Absence;
 pub use cause::Cause;
@@ -45,3 +46,4 @@ pub use throttle::Throttle;
 pub use unknown_asdu::UnknownAsdus;
 pub use unreadable::Unreadable;
 pub use waiting::{MOST, MOST_OF_CONTROLS, Next, WaitingNotes};
+pub use write_trouble::WriteTrouble;

@@ -6,10 +6,10 @@ use crate::counted::{AndMore, Counted};
 use crate::doubt::Doubt;
 use crate::event::{JournalEvent, Priority, Subject};
 use crate::failure::Failure;
-use crate::instant::Instant;
 use crate::reason::{Reason, ReasonWords};
 use crate::unreadable::Unreadable;
 use gw_names::{Behind, Names};
+use gw_status::Instant;
 use gw_text::Plain;
 use iec_command::Command;
 use std::fmt;
@@ -136,6 +136,13 @@ impl<'a> Happened<'a> {
             }
             JournalEvent::NotAccepted(cause) => write_said(f, "no connection accepted:", cause),
             JournalEvent::RecordingEnded(ended) => write_said(f, "the", ended),
+            JournalEvent::EventsHindered(trouble) => {
+                write_said(f, "events aren't written:", trouble)
+            }
+            JournalEvent::EventsResumed => f.write_str("events are written again"),
+            JournalEvent::EventsLeftOut(count) => {
+                write_counted(f, *count, "observation", "left out of the events")
+            }
             JournalEvent::HostStoodStill { milliseconds } => write_standstill(f, *milliseconds),
             JournalEvent::LeftOut(count) => write_counted(f, *count, "event", "left out"),
             JournalEvent::ControlsLeftOut(count) => {
@@ -155,18 +162,24 @@ impl<'a> Happened<'a> {
             rows,
             controls,
             outstations,
+            shows_values,
         } = self.event
         else {
             return Ok(());
         };
         write!(
             f,
-            "gateway {version} started: {} (SHA-256 {}), {}, {}, {}",
+            "gateway {version} started: {} (SHA-256 {}), {}, {}, {}{}",
             Plain(file.as_str()),
             Hexadecimal(digest),
             Counted(*rows as u64, "point"),
             Counted(*controls as u64, "control"),
-            Counted(*outstations as u64, "outstation")
+            Counted(*outstations as u64, "outstation"),
+            if *shows_values {
+                "; the status shows values of points"
+            } else {
+                ""
+            }
         )
     }
 

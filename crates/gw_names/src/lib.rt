@@ -2,7 +2,9 @@
 #![tactic(auto)]
 
 mod behind;
+mod front;
 mod names;
 
 pub use behind::Behind;
+pub use front::{wants_apostrophe, without_apostrophe};
 pub use names::Names;

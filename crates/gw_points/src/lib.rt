@@ -9,7 +9,6 @@ mod columns;
 mod doubles;
 mod doubts;
 mod fault;
-mod front;
 mod kinds;
 mod layout;
 mod list;

@@ -5,13 +5,13 @@ use crate::cell::{CellValue, KeyValue, number_at, word_at};
 use crate::cells::Cells;
 use crate::columns::COLUMNS;
 use crate::fault::{CellProblem, ListFault, shown};
-use crate::front::without_apostrophe;
 use crate::kinds::{KIND_WORDS, RowKind, shows_of};
 use crate::list::{ListRow, Listed};
 use crate::reading::Outstations;
 use crate::told::Told;
 use gw_map::{Absence, Key, Section, keys_of};
 use gw_model::{Kind, PointKey};
+use gw_names::without_apostrophe;
 use std::alloc::AllocError;
 
 /// How many characters a name or a description may have.

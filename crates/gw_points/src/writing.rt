@@ -1,11 +1,11 @@
 //! Writing the list of settings.
 
 use crate::columns::COLUMNS;
-use crate::front::wants_apostrophe;
 use crate::list::{List, ListRow};
 use crate::matching::RowsOf;
 use csv::{Writer, WriterBuilder};
 use gw_map::{Control, Operates, Outstation, Pulses, Rest, Row, Scale, Settings, Show};
+use gw_names::wants_apostrophe;
 use gw_profile::{control_word, kind_word, mode_word, show_word};
 use std::alloc::{AllocError, Global};
 

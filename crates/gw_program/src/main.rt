@@ -1,6 +1,9 @@
 //! The gateway's programs.
 #![tactic(auto)]
 
+mod event_file;
+mod event_writing;
+mod following;
 mod recording;
 mod running;
 mod shown;

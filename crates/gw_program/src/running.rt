@@ -1,5 +1,8 @@
 //! `gateway run`.
 
+use crate::event_file::{EventFile, nudge};
+use crate::event_writing::EventWriter;
+use crate::following::{Followed, event_file};
 use crate::recording::{Recording, tell_end};
 use crate::shown::Shown;
 use gw_capture::{Capture, OnePiece, Pieces};
@@ -8,16 +11,21 @@ use gw_commands::{Named, Names};
 use gw_map::Settings;
 use gw_model::Memory;
 use gw_server::{
-    Clock, Closed, Gate, Host, Journal, OpenGate, Options, SystemClock, journal_of, serve_as,
+    Clock, Closed, EventQueue, Gate, Host, Journal, OpenGate, Options, SystemClock, journal_of,
+    serve_as,
 };
 use gw_startup::{
-    Entrances, PieceFiles, Source, Unserved, check_records, folder_files, is_journal, read_source,
-    record_files, refuse_run, tell_start,
+    Entrances, PieceFiles, Source, Unserved, check_followers, check_records, folder_files,
+    is_journal, read_source, record_files, refuse_run, tell_start,
 };
 use std::alloc::Global;
 use std::fs::File;
 use std::net::TcpListener;
+use std::time::Duration;
 use std::{io, thread};
+
+/// The milliseconds between two looks at whether all events are written.
+const NUDGE_MS: u64 = 50;
 
 /// Serves control centres and outstations as a settings file says, until so many connections of control centres have
 /// ended, or standard input has, or for ever; gives the status.
@@ -39,18 +47,22 @@ pub fn run<H: Host>(
 
 /// Reads the settings file, listens, and serves.
 fn serve_file<'a, H: Host>(
-    rt: &HostRuntime,
+    rt: &'a HostRuntime,
     host: &H,
     file: &'a str,
     sessions: Option<u32>,
     asked: &RunOptions<'a>,
 ) -> Result<Closed, Unserved<'a>> {
     check_records(file, asked)?;
+    check_followers(file, asked)?;
     let (settings, source) = read_source(rt, file)?;
     let Named { names, .. } = Named::read(rt, &settings, asked.names)?;
     let clock = SystemClock::new(host);
     let shown = Shown::of(rt, asked.status.is_some());
+    let followed = Followed::of(rt.alloc(), &settings, &names, asked)?;
+    let events = event_file(rt, asked).map_err(Unserved::Hindered)?;
     let (entrances, journal) = begin(rt, host, &clock, &settings, source, names, asked)?;
+    let values = followed.values(rt.alloc())?;
     let site = Site {
         alloc: rt.alloc(),
         host,
@@ -64,11 +76,16 @@ fn serve_file<'a, H: Host>(
             needs_centre: asked.needs_centre,
             is_recorded: asked.record.is_some() || asked.record_folder.is_some(),
             process: shown.process(),
+            values: values.as_ref(),
+            events: followed.queue.as_ref(),
         },
         journal: &journal,
         clock: &clock,
     };
-    site.serve_asked(rt, settings, source, asked)
+    match events {
+        Some(events) => site.serve_writing(rt, settings, source, asked, &followed, events),
+        None => site.serve_asked(rt, settings, source, asked),
+    }
 }
 
 /// Listens, and begins the journal.
@@ -82,7 +99,7 @@ fn begin<'a, H: Host>(
     asked: &RunOptions<'a>,
 ) -> Result<(Entrances, Journal), Unserved<'a>> {
     let entrances = Entrances::open(rt.alloc(), host, settings, asked)?;
-    let journal = begun_journal(rt, host, clock, settings, source, names)?;
+    let journal = begun_journal(rt, host, clock, settings, source, names, asked)?;
     Ok((entrances, journal))
 }
 
@@ -94,9 +111,19 @@ fn begun_journal<'a, H: Host>(
     settings: &Settings,
     source: Source<'_>,
     names: Names,
+    asked: &RunOptions<'_>,
 ) -> Result<Journal, Unserved<'a>> {
     let journal = journal_of(rt.alloc(), settings, is_journal(rt))?.with_names(names);
-    tell_start(rt.alloc(), host, &journal, clock.wall(), settings, source)?;
+    let wall = clock.wall();
+    tell_start(
+        rt.alloc(),
+        host,
+        &journal,
+        wall,
+        settings,
+        source,
+        asked.values,
+    )?;
     Ok(journal)
 }
 
@@ -131,6 +158,57 @@ impl<'a, H: Host> Site<'a, H> {
                 Ok(self.serve_recorded(settings, files, pieces, megabytes)?)
             }
             (None, None) => Ok(self.serve(settings, &OpenGate)?),
+        }
+    }
+
+    /// Serves, and writes spontaneous observations to a file, in a thread of its own.
+    fn serve_writing<'b>(
+        &self,
+        rt: &HostRuntime,
+        settings: Settings,
+        source: Source<'_>,
+        asked: &RunOptions<'b>,
+        followed: &Followed,
+        file: EventFile<'_>,
+    ) -> Result<Closed, Unserved<'b>> {
+        let Some(queue) = &followed.queue else {
+            return self.serve_asked(rt, settings, source, asked);
+        };
+        let is_pipe = file.is_pipe();
+        let writer = EventWriter::new(
+            self.alloc,
+            self.host,
+            self.clock,
+            &followed.points,
+            queue,
+            self.journal,
+            file,
+        );
+        let (_, closed) = thread::join(
+            self.host,
+            move || writer.write_all(),
+            move || {
+                let closed = self.serve_asked(rt, settings, source, asked);
+                queue.close(self.host);
+                if is_pipe {
+                    self.await_written(rt, queue, asked.events.unwrap_or(""));
+                }
+                closed
+            },
+        );
+        self.journal.close(self.host);
+        self.journal.write_on(self.host);
+        closed
+    }
+
+    /// Waits until no more events are written to a pipe. Who waits for a reader of it, which may never come, goes on.
+    fn await_written(&self, rt: &HostRuntime, queue: &EventQueue, pipe: &str) {
+        for _ in self.host.forever() {
+            if queue.is_finished() {
+                return;
+            }
+            nudge(rt, pipe);
+            thread::sleep(self.host, Duration::from_millis(NUDGE_MS));
         }
     }
 

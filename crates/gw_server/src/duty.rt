@@ -9,7 +9,7 @@ use gw_connections::{
 };
 use gw_model::Memory;
 use gw_peers::{Lobby, await_end};
-use gw_watch::{CLIENTS, Site, serve_status};
+use gw_watch::{CLIENTS, Site, follow, serve_status};
 
 /// How many threads serve the status: a request that comes slowly, or whose answer is taken slowly, keeps one of them.
 const STATUS_THREADS: u8 = 4;
@@ -23,6 +23,8 @@ pub enum Duty<L: Course> {
     Lookout,
     /// Serves the status, beside others.
     Status,
+    /// Follows the news.
+    Follower,
     /// Makes the ticks.
     Clock(Pass<L>),
     /// Keeps the connection to an outstation.
@@ -54,6 +56,7 @@ impl<L: Course + Send + Sync> Duty<L> {
             Duty::Journal => desk.journal.write_on(desk.rt),
             Duty::Lookout => look_out::<L, S, R, C>(desk, house.shared),
             Duty::Status => serve_status::<L, S, R, C>(desk, house.shared, site),
+            Duty::Follower => follow::<L, S, R, C>(desk, house.shared, site),
             Duty::Input => await_end(desk.rt, lobby, &site.door),
             Duty::Clock(pass) => {
                 let (pass, _) = clock(desk.rt, house.shared, pass, desk.clock, house.gate);
@@ -96,7 +99,7 @@ impl<L: Course> Returned<L> {
 
 /// Adds a duty for each thread, in the order in which they end: that of standard input, where its end is awaited,
 /// those of the places and of the outstations, the last ones first, the clock's, that of the status, where it is
-/// served, the lookout's and the journal's. `passes` are those of all actors; they are used up.
+/// served, that of who follows the news, where anybody does, the lookout's and the journal's. `passes` are those of all actors; they are used up.
 pub fn add_duties<L: Course>(
     duties: &mut Vec<Duty<L>>,
     passes: &mut Vec<Pass<L>>,
@@ -161,12 +164,15 @@ fn add_outstations<L: Course>(
     Ok(())
 }
 
-/// Adds the duties of the status, the lookout and the journal.
+/// Adds the duties of the status, of following the news, the lookout and the journal.
 fn add_others<L: Course>(duties: &mut Vec<Duty<L>>, site: &Site<'_>) -> Result<(), Memory> {
     if site.status.is_some() {
         for _ in 0..STATUS_THREADS {
             add(duties, Duty::Status)?;
         }
+    }
+    if site.values.is_some() || site.events.is_some() {
+        add(duties, Duty::Follower)?;
     }
     add(duties, Duty::Lookout)?;
     add(duties, Duty::Journal)

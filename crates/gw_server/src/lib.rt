@@ -10,6 +10,6 @@ pub use gw_clock::{Clock, SystemClock};
 pub use gw_connections::{Call, Closed, Gate, Host, OpenGate, Place, Pumped, Run, Step, StepFault};
 pub use gw_journal::{Journal, JournalEvent};
 pub use gw_peers::Network;
-pub use gw_watch::{Identity, ProcessFiles};
+pub use gw_watch::{EventQueue, Identity, ProcessFiles, Values};
 pub use options::Options;
 pub use serving::{journal_of, open, serve, serve_as};

@@ -1,7 +1,7 @@
 //! What is said of a run beside its settings.
 
 use gw_peers::{Door, Network, Plan};
-use gw_watch::{Identity, ProcessFiles, Site};
+use gw_watch::{EventQueue, Identity, ProcessFiles, Site, Values};
 use std::io::Stdin;
 use std::net::TcpListener;
 
@@ -24,6 +24,10 @@ pub struct Options<'a> {
     pub is_recorded: bool,
     /// Where the system tells what the process takes, if it does.
     pub process: Option<&'a ProcessFiles>,
+    /// The values of points, where they are shown.
+    pub values: Option<&'a Values<'a>>,
+    /// Where spontaneous observations go that are written, where they are.
+    pub events: Option<&'a EventQueue>,
 }
 
 impl<'a> Options<'a> {
@@ -49,6 +53,8 @@ impl<'a> Options<'a> {
             needs_centre: self.needs_centre,
             is_recorded: self.is_recorded,
             process: self.process,
+            values: self.values,
+            events: self.events,
             status: self.status,
             started,
         }

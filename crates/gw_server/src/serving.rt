@@ -70,6 +70,8 @@ pub fn serve<R: Host, C: Clock + Sync, G: Gate + Sync>(
         needs_centre: false,
         is_recorded: false,
         process: None,
+        values: None,
+        events: None,
     };
     serve_as(
         alloc, rt, settings, listener, options, &journal, clock, gate,

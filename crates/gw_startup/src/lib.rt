@@ -4,17 +4,18 @@
 
 mod about;
 mod entrances;
+mod files_of_record;
 mod obstacle;
-mod record_files;
 mod source;
 mod starting;
 mod system;
 mod unserved;
 
 pub use entrances::Entrances;
+pub use files_of_record::{folder_files, record_files};
 pub use gw_folder::{FolderPieces, PieceFiles};
-pub use record_files::{folder_files, record_files};
-pub use source::{Source, check_records, read_source};
+pub use obstacle::Obstacle;
+pub use source::{Source, check_followers, check_records, read_source};
 pub use starting::{is_journal, tell_start};
 pub use system::Environment;
 pub use unserved::{Unserved, refuse_run};

@@ -19,6 +19,9 @@ pub enum Obstacle<'a> {
     /// A file of the record can't be made: how its name begins, how it ends, and why.
     #[error("can't write the record {name}{1}: {2}", name = Plain(*.0))]
     Record(&'a str, &'static str, FileFailure),
+    /// The file of events can't be written.
+    #[error("can't write the events {name}: {1}", name = Plain(*.0))]
+    Events(&'a str, FileFailure),
     /// The record would be written into the settings file.
     #[error("the record would overwrite the settings file")]
     Overwriting,
@@ -36,6 +39,7 @@ impl<'a> Obstacle<'a> {
             Obstacle::Status(..) => "status",
             Obstacle::Listen(..) => "listen",
             Obstacle::Record(..) | Obstacle::Overwriting => "record",
+            Obstacle::Events(..) => "events",
         }
     }
 }

@@ -1,13 +1,16 @@
 //! The settings file of a run, and what may be asked for beside it.
 
+use crate::files_of_record::ANSWERS;
 use crate::obstacle::Obstacle;
-use crate::record_files::ANSWERS;
 use crate::unserved::Unserved;
 use gw_checker::read_settings;
 use gw_command_line::RunOptions;
 use gw_commands::{BadFile, System, read_octets};
 use gw_map::Settings;
 use sha2::{Digest, Sha256};
+
+/// The names of standard output.
+const OUTPUTS: &[&str] = &["-", "/dev/stdout", "/dev/fd/1", "/proc/self/fd/1"];
 
 /// A settings file: its name, and the SHA-256 of its octets.
 #[derive(Clone, Copy)]
@@ -41,6 +44,27 @@ pub fn check_records<'a>(file: &str, asked: &RunOptions<'_>) -> Result<(), Unser
         (_, None, Some(_)) => Err(Unserved::KeptNowhere),
         _ => Ok(()),
     }
+}
+
+/// Whether values can be shown and events be written as it is asked for, by the options alone.
+pub fn check_followers<'a>(file: &str, asked: &RunOptions<'_>) -> Result<(), Unserved<'a>> {
+    if asked.values && asked.status.is_none() {
+        return Err(Unserved::ShownNowhere);
+    }
+    match asked.events {
+        None if asked.events_keep.is_some() => Err(Unserved::NoEvents),
+        Some(events) if is_output(events) => Err(Unserved::EventsOnOutput),
+        Some(events)
+            if events == file || asked.names == Some(events) || asked.record == Some(events) => {
+            Err(Unserved::EventsOverwriting)
+        }
+        _ => Ok(()),
+    }
+}
+
+/// Whether a file is standard output, by its name.
+fn is_output(file: &str) -> bool {
+    OUTPUTS.contains(&file)
 }
 
 /// Whether a record would be written into the settings file, by their names.

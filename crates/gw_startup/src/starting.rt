@@ -21,8 +21,9 @@ pub fn tell_start<W: Wait>(
     wall: u64,
     settings: &Settings,
     source: Source<'_>,
+    shows_values: bool,
 ) -> Result<(), AllocError> {
-    journal.tell(host, wall, started(alloc, settings, source)?);
+    journal.tell(host, wall, started(alloc, settings, source, shows_values)?);
     tell_doubts(alloc, host, journal, wall, settings)
 }
 
@@ -41,6 +42,7 @@ fn started(
     alloc: Global,
     settings: &Settings,
     source: Source<'_>,
+    shows_values: bool,
 ) -> Result<JournalEvent, AllocError> {
     Ok(JournalEvent::Started {
         version: VERSION,
@@ -49,6 +51,7 @@ fn started(
         rows: settings.rows().len(),
         controls: settings.controls().len(),
         outstations: settings.outstations().len(),
+        shows_values,
     })
 }
 

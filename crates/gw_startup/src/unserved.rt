@@ -27,6 +27,18 @@ pub enum Unserved<'a> {
     /// What is kept is bounded, and nothing is.
     #[error("--record-keep needs --record-folder")]
     KeptNowhere,
+    /// Values are to be shown, and nothing is.
+    #[error("--values needs --status")]
+    ShownNowhere,
+    /// What is kept of events is bounded, and none are written.
+    #[error("--events-keep needs --events")]
+    NoEvents,
+    /// Events would go where `steps N` does.
+    #[error("--events takes a file or a named pipe, not standard output")]
+    EventsOnOutput,
+    /// Events would be written into another file of the gateway.
+    #[error("--events can't be the settings file, a list or the record")]
+    EventsOverwriting,
     /// A socket can't be opened, or a file can't be made.
     #[error(transparent)]
     Hindered(Obstacle<'a>),
@@ -46,15 +58,15 @@ pub fn refuse_run<S: Environment>(rt: &S, why: &Unserved<'_>) -> io::Result<u8> 
     match why {
         Unserved::Settings(bad) => refuse_file(rt, front_of(rt), bad),
         Unserved::Names(why) => refuse_list(rt, front_of(rt), why),
-        Unserved::Allow | Unserved::TwoRecords | Unserved::KeptNowhere => {
-            eprintln!(rt; "error: {why}")?;
-            Ok(USAGE)
-        }
         Unserved::Hindered(obstacle) => {
             let status = refuse_for(rt, obstacle.word())?;
             complain(rt, front_of(rt), obstacle);
             Ok(status)
         }
         Unserved::Memory(_) => refuse_for(rt, "memory"),
+        _ => {
+            eprintln!(rt; "error: {why}")?;
+            Ok(USAGE)
+        }
     }
 }

@@ -15,12 +15,14 @@ mod status;
 mod time;
 mod verdict;
 
+pub use escaped::Escaped;
 pub use indications::tell_of_trouble;
 pub use metrics::Metrics;
-pub use page::Page;
+pub use page::{Digest, Page};
 pub use state::{ClientState, OutstationState};
 pub use status::{
     ClientStatus, Closes, Identity, LeftOut, OrderStatus, OutstationStatus, PointStatus,
     ProcessStatus, Refusals, Status,
 };
+pub use time::Instant;
 pub use verdict::{Health, Life, Verdict, is_alive};

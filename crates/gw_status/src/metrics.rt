@@ -19,9 +19,10 @@ impl<'a> fmt::Display for Metrics<'a> {
         let clients = self.0.clients.as_slice();
         write!(
             f,
-            "{}{}{}{}{}{}{}{}{}{}{}",
+            "{}{}{}{}{}{}{}{}{}{}{}{}",
             GatewayFigures(self.0),
             RecordFigure(self.0.records),
+            FollowedFigures(self.0),
             ProcessFigures(self.0.process),
             OutstationFamilies {
                 families: OUTSTATION_FIGURES,
@@ -127,6 +128,45 @@ impl fmt::Display for RecordFigure {
             None => Ok(()),
         }
     }
+}
+
+/// What was passed over of what is followed, where it is.
+#[derive(Clone, Copy)]
+struct FollowedFigures<'a>(&'a Status<'a>);
+
+impl<'a> fmt::Display for FollowedFigures<'a> {
+    fn fmt<W: fmt::Write>(&self, f: &mut fmt::Formatter<W>) -> fmt::Result {
+        if let Some(count) = self.0.passed_over {
+            write_count(
+                f,
+                "gateway_values_passed_over_total",
+                "Changes that the values of points passed over.",
+                count,
+            )?;
+        }
+        match self.0.events_left_out {
+            Some(count) => write_count(
+                f,
+                "gateway_events_left_out_total",
+                "Events that weren't written.",
+                count,
+            ),
+            None => Ok(()),
+        }
+    }
+}
+
+/// Writes a family with one figure, a count.
+fn write_count<W: fmt::Write>(
+    f: &mut fmt::Formatter<W>,
+    name: &str,
+    help: &str,
+    count: u64,
+) -> fmt::Result {
+    write!(
+        f,
+        "# HELP {name} {help}\n# TYPE {name} counter\n{name} {count}\n"
+    )
 }
 
 /// What the process takes, by the names that are usual for any process, where the system tells.

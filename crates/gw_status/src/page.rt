@@ -198,12 +198,13 @@ impl<'a> fmt::Display for Facts<'a> {
         let identity = status.identity;
         write!(
             f,
-            "<p>At {}. The gateway runs for {}, since {}.</p>\n\
+            "<p>At {}. The gateway runs for {}, since {}.{}</p>\n\
             <p>Settings {}, SHA-256 {}.{} Version {}{}.</p>\n\
             <p>{} steps of the core, {} spontaneous observations{}.</p>\n",
             Moment(status.now),
             Span(status.uptime()),
             Moment(status.started),
+            WayToPoints(status.passed_over.is_some()),
             Escaped::html(identity.file),
             Digest(&identity.digest),
             Listens(identity.listen),
@@ -213,6 +214,20 @@ impl<'a> fmt::Display for Facts<'a> {
             status.news,
             Recorded(status.records)
         )
+    }
+}
+
+/// The way to the values of points, where they are shown.
+#[derive(Clone, Copy)]
+struct WayToPoints(bool);
+
+impl fmt::Display for WayToPoints {
+    fn fmt<W: fmt::Write>(&self, f: &mut fmt::Formatter<W>) -> fmt::Result {
+        f.write_str(if self.0 {
+            " <a href=points>Values of points</a>"
+        } else {
+            ""
+        })
     }
 }
 

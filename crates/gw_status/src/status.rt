@@ -32,6 +32,10 @@ pub struct Status<'a> {
     pub left_out: LeftOut,
     /// What the process takes, if the system tells.
     pub process: Option<ProcessStatus>,
+    /// How many changes the values of points passed over; nothing where they aren't shown.
+    pub passed_over: Option<u64>,
+    /// How many events weren't written; nothing where that isn't asked for.
+    pub events_left_out: Option<u64>,
 }
 
 impl<'a> Status<'a> {

@@ -16,6 +16,19 @@ impl fmt::Display for Moment {
     }
 }
 
+/// When something was, as `2023-11-14T22:13:20.000Z`; `-` past the year 9999.
+#[derive(Clone, Copy)]
+pub struct Instant(pub u64);
+
+impl fmt::Display for Instant {
+    fn fmt<W: fmt::Write>(&self, f: &mut fmt::Formatter<W>) -> fmt::Result {
+        match Timestamp::from_nanosecond(i128::from(self.0) * 1_000_000) {
+            Ok(instant) => write!(f, "{instant:.3}"),
+            Err(_) => f.write_str("-"),
+        }
+    }
+}
+
 /// A span of time, by its milliseconds, as `12 s`, `3 min 20 s`, `5 h 12 min` or `3 d 4 h`.
 #[derive(Clone, Copy)]
 pub struct Span(pub u64);

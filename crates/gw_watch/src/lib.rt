@@ -2,14 +2,21 @@
 //! the status is served on an address of its own.
 #![tactic(auto)]
 
+mod asked_values;
 mod controls;
+mod event_queue;
+mod following;
 mod process;
 mod site;
 mod status;
+mod values;
 mod watched;
 
+pub use event_queue::EventQueue;
+pub use following::follow;
 pub use gw_status::Identity;
 pub use process::ProcessFiles;
 pub use site::{CLIENTS, OUTSTATIONS, Site};
 pub use status::serve_status;
+pub use values::Values;
 pub use watched::Watched;

@@ -1,7 +1,9 @@
 //! What is served.
 ghost use Rattle.std.specs.Prelude.{◌≤◌};
 
+use crate::event_queue::EventQueue;
 use crate::process::ProcessFiles;
+use crate::values::Values;
 use gw_peers::{Door, Plan};
 use gw_status::Identity;
 use std::net::TcpListener;
@@ -27,6 +29,10 @@ pub struct Site<'a> {
     pub is_recorded: bool,
     /// Where the system tells what the process takes, if it does.
     pub process: Option<&'a ProcessFiles>,
+    /// The values of points, where they are shown.
+    pub values: Option<&'a Values<'a>>,
+    /// Where spontaneous observations go that are written, where they are.
+    pub events: Option<&'a EventQueue>,
     /// Where the status is served, if it is.
     pub status: Option<&'a TcpListener>,
     /// When the server started, in milliseconds since 1970 in UTC.

@@ -1,8 +1,9 @@
 //! The status, served on an address of its own.
 ghost use Rattle.std.specs.Prelude.{None};
 
+use crate::asked_values::{answer_values, is_of_values, refuse_values};
 use crate::site::Site;
-use gw_http::{HttpRequest, Resource, answer, receive, refuse};
+use gw_http::{HttpRequest, Query, RequestFault, Resource, answer, receive, refuse};
 use gw_model::Memory;
 use gw_peers::{ClientCard, Desk, OutstationCard, Plan, look_up_from_accept, shut};
 use gw_status::{
@@ -20,6 +21,9 @@ use std::time::Duration;
 /// The milliseconds that a request may take to come, and those that its answer may take to be sent.
 const LONGEST_MS: u64 = 2000;
 
+/// The milliseconds that an answer with values of points may take to be sent.
+const LONGEST_VALUES_MS: u64 = 10_000;
+
 /// The milliseconds of one wait for octets of a request, or until octets of an answer are taken.
 const LOOK_MS: u64 = 200;
 
@@ -36,23 +40,42 @@ struct Punctual<'a, C> {
     clock: &'a C,
     began: u64,
     has_begun: bool,
+    /// For how many milliseconds it is waited for once it has begun.
+    longest_ms: u64,
 }
 
 impl<'a, C: Clock> Punctual<'a, C> {
-    /// One that is waited for from now on.
-    fn new(stream: &'a TcpStream, clock: &'a C, has_begun: bool) -> Punctual<'a, C> {
+    /// One that gives a request, and is waited for from now on.
+    fn giving(stream: &'a TcpStream, clock: &'a C) -> Punctual<'a, C> {
         Punctual {
             stream,
             clock,
             began: clock.moment(),
-            has_begun,
+            has_begun: false,
+            longest_ms: LONGEST_MS,
+        }
+    }
+
+    /// One that takes an answer, and is waited for so many milliseconds from now on.
+    fn taking(stream: &'a TcpStream, clock: &'a C, longest_ms: u64) -> Punctual<'a, C> {
+        Punctual {
+            stream,
+            clock,
+            began: clock.moment(),
+            has_begun: true,
+            longest_ms,
         }
     }
 
     /// Whether it may be waited on.
     fn is_in_time(&self) -> bool {
         let passed = self.clock.moment().saturating_sub(self.began);
-        passed < if self.has_begun { LONGEST_MS } else { FIRST_MS }
+        passed
+            < if self.has_begun {
+                self.longest_ms
+            } else {
+                FIRST_MS
+            }
     }
 }
 
@@ -128,17 +151,44 @@ fn serve_request<L: Course, S: Calls<L>, R: Wait, C: Clock>(
 ) {
     let _ = stream.set_read_timeout(Some(Duration::from_millis(LOOK_MS)));
     let _ = stream.set_write_timeout(Some(Duration::from_millis(LOOK_MS)));
-    if let Some(request) = receive(&mut Punctual::new(stream, desk.clock, false)) {
-        if let Ok(text) = answer_to::<L, S, R, C>(desk, shared, site, request) {
-            send(stream, desk.clock, text.as_str());
+    let mut query = Query::none();
+    if let Some(request) = receive(&mut Punctual::giving(stream, desk.clock), &mut query) {
+        if is_of_values(&request, site) {
+            serve_values(desk, site, stream, &request, &query);
+        } else if let Ok(text) = answer_to::<L, S, R, C>(desk, shared, site, request) {
+            send(stream, desk.clock, LONGEST_MS, text.as_str());
         }
     }
     shut(stream);
 }
 
-/// Sends an answer, as far as it is taken in time.
-fn send<C: Clock>(stream: &TcpStream, clock: &C, text: &str) {
-    let _ = Punctual::new(stream, clock, true).write_all(text.as_bytes());
+/// Answers a request for values of points. Only some are answered at a time, so that one who takes them slowly keeps nobody from
+/// the rest of the status.
+fn serve_values<R: Wait, C: Clock>(
+    desk: &Desk<'_, R, C>,
+    site: &Site<'_>,
+    stream: &TcpStream,
+    request: &HttpRequest,
+    query: &Query,
+) {
+    let Some(values) = site.values else {
+        return;
+    };
+    if !values.begin_asking() {
+        if let Ok(text) = refuse_values(desk.alloc, request.is_head) {
+            send(stream, desk.clock, LONGEST_MS, text.as_str());
+        }
+        return;
+    }
+    if let Ok(text) = answer_values(desk, site, request, query) {
+        send(stream, desk.clock, LONGEST_VALUES_MS, text.as_str());
+    }
+    values.end_asking();
+}
+
+/// Sends an answer, as far as it is taken within so many milliseconds.
+fn send<C: Clock>(stream: &TcpStream, clock: &C, longest_ms: u64, text: &str) {
+    let _ = Punctual::taking(stream, clock, longest_ms).write_all(text.as_bytes());
 }
 
 /// The answer to a request.
@@ -151,6 +201,9 @@ fn answer_to<L: Course, S: Calls<L>, R: Wait, C: Clock>(
     let tickless_ms = desk.board.pulse.age(desk.clock.moment());
     match request.asked {
         Err(refusal) => refuse(desk.alloc, refusal, request.is_head),
+        Ok(Resource::Points | Resource::PointsCsv | Resource::PointsJson) => {
+            refuse(desk.alloc, RequestFault::NotFound, request.is_head)
+        }
         Ok(asked) if is_of_life(asked, tickless_ms) => {
             answer_life(desk.alloc, asked, request.is_head, tickless_ms)
         }
@@ -167,7 +220,7 @@ fn is_of_life(asked: Resource, tickless_ms: u64) -> bool {
     match asked {
         Resource::Alive => true,
         Resource::Health => !is_alive(tickless_ms),
-        Resource::Page | Resource::Metrics => false,
+        _ => false,
     }
 }
 
@@ -179,7 +232,14 @@ fn answer_life(
     tickless_ms: u64,
 ) -> Result<String, Memory> {
     let body = format!(in alloc; "{}", Life(tickless_ms))?;
-    answer(alloc, asked, is_head, is_alive(tickless_ms), body.as_str())
+    answer(
+        alloc,
+        asked,
+        is_head,
+        is_alive(tickless_ms),
+        "",
+        body.as_str(),
+    )
 }
 
 /// The answer to a request for something, with a status.
@@ -193,13 +253,13 @@ fn answer_with(
     let body = match asked {
         Resource::Metrics => format!(in alloc; "{}", Metrics(&*status))?,
         Resource::Page => page_of(alloc, status, &verdict)?,
-        Resource::Alive | Resource::Health => health_of(alloc, status, &verdict)?,
+        _ => health_of(alloc, status, &verdict)?,
     };
     let is_well = match asked {
         Resource::Health => verdict.is_without_alarm(),
         _ => true,
     };
-    answer(alloc, asked, is_head, is_well, body.as_str())
+    answer(alloc, asked, is_head, is_well, "", body.as_str())
 }
 
 /// The page of a status.
@@ -246,6 +306,8 @@ fn status_of<'a, R: Wait, C: Clock>(
         not_allowed: desk.board.not_allowed(),
         left_out: desk.journal.left_out(desk.rt),
         process: process_of(site),
+        passed_over: site.values.map(|values| values.head(desk.rt).passed_over),
+        events_left_out: site.events.map(|events| events.left_out()),
     })
 }
 

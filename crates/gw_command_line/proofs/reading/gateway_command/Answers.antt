@@ -13,4 +13,4 @@ returns c =
     c.translate_command.ensures.app c.translate_command.ensures.local)
     c.file_command-replay.ensures.app c.file_command-replay.ensures.local)
     c.pcap_command.ensures.app c.pcap_command.ensures.local)
-    c.recording_command.ensures.app c.recording_command.ensures.local
+    c.following_command.ensures.app c.following_command.ensures.local

@@ -9,12 +9,12 @@ fn begins_formula(text: &str) -> bool {
 }
 
 /// Whether a text would be taken for a formula but for the apostrophes in front of it, if there are any.
-pub(crate) fn wants_apostrophe(text: &str) -> bool {
+pub fn wants_apostrophe(text: &str) -> bool {
     begins_formula(text.trim_start_matches('\''))
 }
 
 /// What a cell says: without the apostrophe that keeps a spreadsheet from taking it for a formula.
-pub(crate) fn without_apostrophe(cell: &str) -> &str {
+pub fn without_apostrophe(cell: &str) -> &str {
     match cell.strip_prefix('\'') {
         Some(text) if wants_apostrophe(text) => text,
         _ => cell,

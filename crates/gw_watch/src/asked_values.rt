@@ -1,0 +1,128 @@
+//! Answers to requests for the values of points.
+
+use crate::site::Site;
+use crate::values::{Range, Values};
+use gw_http::{HttpRequest, Query, RequestFault, Resource, answer, refuse};
+use gw_model::Memory;
+use gw_peers::Desk;
+use gw_threads::Clock;
+use gw_values::{Choice, FIRST_ROWS, Form, POLICY, PointsPage};
+use std::alloc::Global;
+use std::sync::Wait;
+
+/// What is asked of the values of points.
+#[derive(Clone, Copy)]
+struct AskedValues {
+    resource: Resource,
+    choice: Choice,
+    range: Range,
+}
+
+impl AskedValues {
+    /// What a resource and a query ask for; nothing where it isn't one of values.
+    fn of(resource: Resource, query: &Query) -> Option<Result<AskedValues, RequestFault>> {
+        match resource {
+            Resource::Points => Some(AskedValues::of_page(query)),
+            Resource::PointsCsv => Some(AskedValues::of_list(resource, Form::Csv, query)),
+            Resource::PointsJson => Some(AskedValues::of_list(resource, Form::Json, query)),
+            Resource::Page | Resource::Metrics | Resource::Alive | Resource::Health => None,
+        }
+    }
+
+    /// The page, from a row on.
+    fn of_page(query: &Query) -> Result<AskedValues, RequestFault> {
+        let from = query.number("from")?.unwrap_or(0);
+        Ok(AskedValues {
+            resource: Resource::Points,
+            choice: Choice {
+                form: Form::Html,
+                since: None,
+            },
+            range: Range {
+                from: usize::try_from(from).unwrap_or(usize::MAX),
+                most: FIRST_ROWS,
+            },
+        })
+    }
+
+    /// All values in a form, or those that changed since a moment.
+    fn of_list(resource: Resource, form: Form, query: &Query) -> Result<AskedValues, RequestFault> {
+        Ok(AskedValues {
+            resource,
+            choice: Choice {
+                form,
+                since: query.number("changed_since")?,
+            },
+            range: Range {
+                from: 0,
+                most: usize::MAX,
+            },
+        })
+    }
+}
+
+/// Whether a request is for values that are shown.
+pub(crate) fn is_of_values(request: &HttpRequest, site: &Site<'_>) -> bool {
+    match request.asked {
+        Ok(Resource::Points | Resource::PointsCsv | Resource::PointsJson) => site.values.is_some(),
+        _ => false,
+    }
+}
+
+/// The answer to a request for values.
+pub(crate) fn answer_values<R: Wait, C: Clock>(
+    desk: &Desk<'_, R, C>,
+    site: &Site<'_>,
+    request: &HttpRequest,
+    query: &Query,
+) -> Result<String, Memory> {
+    let asked = match request.asked {
+        Ok(resource) => AskedValues::of(resource, query),
+        Err(refusal) => return refuse(desk.alloc, refusal, request.is_head),
+    };
+    match (site.values, asked) {
+        (Some(values), Some(Ok(asked))) => answer_with(desk, site, values, asked, request.is_head),
+        (Some(_), Some(Err(refusal))) => refuse(desk.alloc, refusal, request.is_head),
+        _ => refuse(desk.alloc, RequestFault::NotFound, request.is_head),
+    }
+}
+
+/// The refusal of a request for values while as many are answered as may be.
+pub(crate) fn refuse_values(alloc: Global, is_head: bool) -> Result<String, Memory> {
+    refuse(alloc, RequestFault::Busy, is_head)
+}
+
+/// The answer with the values that are asked for.
+fn answer_with<R: Wait, C: Clock>(
+    desk: &Desk<'_, R, C>,
+    site: &Site<'_>,
+    values: &Values<'_>,
+    asked: AskedValues,
+    is_head: bool,
+) -> Result<String, Memory> {
+    let AskedValues {
+        resource,
+        choice,
+        range,
+    } = asked;
+    let text = values.text(desk.alloc, desk.rt, choice, range, site.started)?;
+    match resource {
+        Resource::Points => {
+            let page = PointsPage {
+                identity: site.identity,
+                points: values.points(),
+                head: values.head(desk.rt),
+                from: range.from,
+                rows: text.as_str(),
+            };
+            let body = page_text(desk.alloc, &page)?;
+            answer(desk.alloc, resource, is_head, true, POLICY, body.as_str())
+        }
+        _ => answer(desk.alloc, resource, is_head, true, "", text.as_str()),
+    }
+}
+
+/// The text of the page.
+fn page_text(alloc: Global, page: &PointsPage<'_>) -> Result<String, Memory> {
+    Ok(format!(in alloc; "{page}")?)
+}
