@@ -388,6 +388,8 @@ OFF_EVENT, ON_EVENT = bytes.fromhex("02 01 17 01 05 01"), bytes.fromhex("02 01 1
 def events_to_nobody(scene):
     """a pipe that never has a reader: control centres are served as ever, and the gateway ends"""
     outstation, path = scene.outstation(), pipe(scene)
+    # Told at the end, unless the pipe takes what waits before it is closed.
+    scene.passed_over += r"|events aren't written: nobody reads the pipe|\d+ observations left out of the events"
     scene.start(options=["--events", str(path)])
     link, centre = scene.accept(outstation), scene.started()
     link.send(response(0, ON))
