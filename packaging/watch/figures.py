@@ -55,9 +55,9 @@ def served(scene, program, places):
     file = scene.folder / "settings.toml"
     # Each plant is one outstation, with link address 1.
     file.write_text(re.sub(r"^address = \d\d?$", "address = 1", settings(listen, places), flags=re.M))
-    # With a record, whose figure is absent where there is none.
-    record = scene.folder / "record"
-    gateway = scene.start(program, "run", file, "--status", status, "--record", record, output=scene.folder / "log")
+    # With what has figures that are absent where it isn't asked for.
+    files = ["--record", scene.folder / "record", "--events", scene.folder / "events.csv"]
+    gateway = scene.start(program, "run", file, "--status", status, "--values", *files, output=scene.folder / "log")
     centre = Centre(None, listen, len(places))
     if not until(15, lambda: centre.moments("interrogated")):
         raise Refused(f"the gateway doesn't serve:\n{(scene.folder / 'log').read_text()[-800:]}")
