@@ -10,15 +10,14 @@ mod files;
 mod kept;
 mod lines;
 mod pieces;
-mod pumps;
 mod sorter;
 mod step_line;
 mod waiting;
 
 pub use capture::Capture;
 pub use gw_replay::{Instruction, push_reply, read_instruction, replay};
+pub use gw_steps::Pumps;
 pub use kept::Kept;
 pub use lines::Lines;
 pub use pieces::{OnePiece, Pieces};
-pub use pumps::Pumps;
 pub use step_line::{has_line, push_step};

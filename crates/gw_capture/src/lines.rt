@@ -3,11 +3,10 @@ ghost use Rattle.std.specs.Prelude.{◌≡◌, ◌++◌, [], IfOk, OnOk};
 ghost use Rattle.gw_replay.specs.Replies.{reply_line};
 ghost use Rattle.gw_capture.specs.Lines.{apdu_line, is_refused, unless_refused};
 
-use crate::pumps::Pumps;
 use crate::step_line::push_step;
 use gw_model::Memory;
 use gw_replay::push_reply;
-use gw_steps::{Reply, Step, StepFault};
+use gw_steps::{Pumps, Reply, Step, StepFault};
 use gw_text::push_spaced;
 use iec_apci::Apdus;
 use std::alloc::Global;

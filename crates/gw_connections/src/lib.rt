@@ -13,8 +13,8 @@ mod sockets;
 
 pub use client::{ClientPasses, serve_place};
 pub use gw_readers::{
-    Call, Calls, Closed, Course, Gate, OpenGate, Pass, Place, Pumped, Run, Shared, Step, StepFault,
-    clock,
+    Calls, Closed, Course, Effects, Gate, Observer, OpenGate, Pass, Place, Pumps, Reply, Shared,
+    Step, StepFault, StepKind, clock,
 };
 pub use host::Host;
 pub use house::House;

@@ -45,21 +45,18 @@ use crate::outgoing::Outgoing;
 use crate::refusal::Refusal;
 use crate::selection::{Selection, is_own, is_selected, is_taken, selection_refusal};
 use gw_map::{Control, Mode, Settings};
-use gw_model::{Act, Ended, Intent, Memory, Order};
+use gw_model::{Act, CLIENTS, Ended, Intent, Memory, Order};
 use iec_command::Command;
 use iec_command::causes::DEACTIVATION;
 use std::alloc::Global;
 use std::marker::Model;
-
-/// How many clients there can be.
-const CLIENTS: usize = 8;
 
 /// The clients' selections of controls, and their orders on the way to outstations. Only `new`, `copy` and `copy_over`
 /// take memory. Moments are in milliseconds; an interval that would begin after it ended counts as 0.
 #[derive(Drop)]
 pub struct Controls {
     /// For each client the session that stands, where a control was selected in it.
-    sessions: [Option<u64>; CLIENTS],
+    sessions: [Option<u64>; CLIENTS as usize],
     /// For each control, by its position, the last selection: it stands as long as its client's session does, and for
     /// as long as the settings tell.
     selections: Vec<Option<Selection>>,
@@ -100,7 +97,7 @@ impl Controls {
         let selections = no_selections(alloc, settings.controls().len())?;
         let outgoing = nothing_outgoing(alloc, settings.outstations().len())?;
         Ok(Controls {
-            sessions: [None; CLIENTS],
+            sessions: [None; CLIENTS as usize],
             selections,
             outgoing,
             ordered,
@@ -114,7 +111,7 @@ impl Controls {
         let selections = Vec::new(*self.selections.allocator());
         let outgoing = Vec::new(*self.outgoing.allocator());
         self.copy_over(Controls {
-            sessions: [None; CLIENTS],
+            sessions: [None; CLIENTS as usize],
             selections,
             outgoing,
             ordered: 0,
@@ -562,11 +559,11 @@ fn accepted_by(asked: &AskedCommand, control: &Control, act: Act, number: u64) -
 }
 
 /// The session that stands for a client.
-fn set_session(sessions: &mut [Option<u64>; CLIENTS], client: u8, session: Option<u64>)
+fn set_session(sessions: &mut [Option<u64>; CLIENTS as usize], client: u8, session: Option<u64>)
     ensures { sessions.new ≡ change client (λ _. session) sessions.old }
 {
     let position = usize::from(client);
-    if position < CLIENTS {
+    if client < CLIENTS {
         sessions[position] = session;
     }
 }

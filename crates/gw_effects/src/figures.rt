@@ -1,8 +1,8 @@
 //! What is counted under the lock.
 
 use crate::order_counts::OrderCounts;
-use crate::roused::{CLIENTS, OUTSTATIONS};
 use crate::tally::Tally;
+use gw_model::{CLIENTS, OUTSTATIONS};
 use gw_steps::Machine;
 
 /// How many calls were made, how many observations were news, what waits for clients, and what became of orders.

@@ -15,11 +15,11 @@ pub use awake::Awake;
 pub use figures::Figures;
 pub use gw_control::{Answer, Refusal};
 pub use gw_steps::{
-    Apdu, ApduBuf, ApduKind, Effects, Fate, Judged, Machine, NewsPiece, OrderEnd, Reply, Reported,
-    Step, StepFault, StepKind, Task, UnknownAsdu, Verdict, Why,
+    Apdu, ApduBuf, ApduKind, Effects, Fate, Judged, Machine, NewsPiece, OrderEnd, Pumps, Reply,
+    Reported, Step, StepFault, StepKind, Task, UnknownAsdu, Verdict, Why,
 };
 pub use hold::Load;
 pub use order_counts::OrderCounts;
 pub use pace::Pace;
-pub use roused::{CLIENTS, OUTSTATIONS, Roused};
+pub use roused::Roused;
 pub use tally::{Tally, order_accepted};

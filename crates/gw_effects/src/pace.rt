@@ -1,8 +1,8 @@
 //! How peers keep up: whether clients have room for what outstations bring, and when outstations are let rest.
 
 use crate::hold::{Hold, Load};
-use crate::roused::{CLIENTS, OUTSTATIONS};
 use crate::streak::{Asked, RequestStreak};
+use gw_model::{CLIENTS, OUTSTATIONS};
 use gw_steps::{Effects, Machine, Reply, Reported, StepFault, StepKind, Verdict};
 
 /// The milliseconds in which a client counts as one that reads, behind the last APDU that it was given, and behind its last

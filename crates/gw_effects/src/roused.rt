@@ -1,12 +1,7 @@
 //! Workers that are to be woken.
 
+use gw_model::{CLIENTS, OUTSTATIONS};
 use gw_steps::Effects;
-
-/// How many outstations there can be.
-pub const OUTSTATIONS: u8 = 32;
-
-/// How many clients there can be.
-pub const CLIENTS: u8 = 8;
 
 /// The writers towards outstations, and those of clients, that may have something to do: a bit for each.
 #[derive(Clone, Copy)]

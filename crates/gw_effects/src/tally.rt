@@ -3,8 +3,8 @@ ghost use Rattle.std.specs.Prelude.{◌≡◌};
 ghost use Rattle.gw_effects.specs.Accepting.{number_in, order_accepted};
 
 use crate::order_counts::OrderCounts;
-use crate::roused::{CLIENTS, OUTSTATIONS};
 use gw_control::Answer;
+use gw_model::{CLIENTS, OUTSTATIONS};
 use gw_steps::{Effects, Machine, OrderEnd, Outgoing};
 
 /// For each outstation how many orders there were, and what became of them; for each client how many observations were

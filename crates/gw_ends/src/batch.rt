@@ -10,13 +10,11 @@ pub const LONGEST_APDU: usize = 255;
 const ROOM: usize = 4096;
 
 /// The octets of APDUs, one after another, that are handed over together: one write to a socket costs as much for many
-/// as for one. It takes no memory. It also has the number of the first call that it was filled by, which no contract
-/// sees.
+/// as for one. It takes no memory.
 #[derive(Drop)]
 pub struct Batch {
     octets: [u8; ROOM],
     used: usize,
-    first_call: u64,
 }
 
 impl Model for Batch {
@@ -37,7 +35,6 @@ impl Batch {
         Batch {
             octets: [0; ROOM],
             used: 0,
-            first_call: 0,
         }
     }
 
@@ -46,21 +43,6 @@ impl Batch {
         ensures { self.new ≡ [] }
     {
         self.used = 0;
-        self.first_call = 0;
-    }
-
-    /// A call with this number, counted from 1, fills it.
-    pub fn number(&mut self, call: u64)
-        ensures { self.new ≡ self.old }
-    {
-        if self.first_call == 0 {
-            self.first_call = call;
-        }
-    }
-
-    /// The number of the first call that filled it since all was forgotten; 0 where none did.
-    pub fn first_call(&self) -> u64 {
-        self.first_call
     }
 
     /// Whether there is room for so many more octets.

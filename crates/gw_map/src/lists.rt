@@ -20,7 +20,7 @@ use std::alloc::{AllocError, Global};
 use toml::{Table, Value};
 
 /// How many outstations there may be.
-pub const OUTSTATIONS: usize = 32;
+pub const OUTSTATIONS: usize = gw_model::OUTSTATIONS as usize;
 
 /// How many points there may be, and points and controls together.
 pub const ROWS: usize = 20_000;

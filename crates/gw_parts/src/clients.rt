@@ -18,7 +18,7 @@ ghost use Rattle.gw_parts.specs.Clients.{event_at, is_timed_out_at, reply_to_pum
 
 use gw_control::Controls;
 use gw_map::Settings;
-use gw_model::{Memory, Observation};
+use gw_model::{CLIENTS, Memory, Observation};
 use gw_station::{Event, NewsPiece, NewsRing, Said, Station};
 use gw_steps::Reply;
 use iec_apci::Apdu;
@@ -26,9 +26,6 @@ use iec_command::Command;
 use iec_window::Limits;
 use std::alloc::Global;
 use std::marker::Model;
-
-/// How many clients there can be.
-const CLIENTS: u8 = 8;
 
 /// For each client its station, and the last news, for all of them.
 #[derive(Drop)]

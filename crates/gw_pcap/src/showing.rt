@@ -5,12 +5,9 @@ use crate::peer::{Link, Peer};
 use crate::tape::Tape;
 use crate::words::{Told, confirmation, octets_behind, split_word};
 use gw_map::Settings;
-use gw_model::Memory;
+use gw_model::{CLIENTS, Memory};
 use gw_text::{line_octets, number_8, number_64};
 use std::alloc::Global;
-
-/// How many clients there may be.
-const CLIENTS: u8 = 8;
 
 /// The first port from which somebody calls, and how many there are.
 const FIRST_PORT: u16 = 32_768;

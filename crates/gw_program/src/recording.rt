@@ -1,7 +1,9 @@
 //! `gateway run --record`: a run that is taken down as lines of a replay.
 
-use gw_capture::{Capture, Kept, Pumps};
-use gw_server::{Call, Gate, Journal, JournalEvent, Place, Pumped, Run, Step, StepFault};
+use gw_capture::{Capture, Kept};
+use gw_server::{
+    Effects, Gate, Journal, JournalEvent, Observer, Place, Pumps, Reply, Step, StepFault, StepKind,
+};
 use gw_text::{RecordEnd, RecordEndCause};
 use std::sync::Wait;
 
@@ -12,43 +14,31 @@ pub struct Recording<'a, R> {
     pub capture: &'a Capture,
 }
 
+impl<'a, R: Wait> Observer for Recording<'a, R> {
+    type Kept = Kept;
+
+    fn keep(&self, step: &Step) -> Kept {
+        self.capture.keep(step)
+    }
+
+    fn step(
+        &self,
+        kept: Kept,
+        number: u64,
+        _kind: StepKind,
+        reply: &Result<Reply, StepFault>,
+        _effects: &Effects,
+    ) {
+        self.capture.put_step(self.rt, kept, number, *reply);
+    }
+
+    fn pumps(&self, pumps: &Pumps<'_>) {
+        self.capture.put_pumps(self.rt, pumps);
+    }
+}
+
 impl<'a, R: Wait> Gate for Recording<'a, R> {
     fn at(&self, _actor: usize, _place: Place) {}
-
-    fn line_of(&self, step: &Step) -> Option<Vec<u8>> {
-        match self.capture.keep(step) {
-            Kept::Line(line) => Some(line),
-            Kept::Nothing => None,
-            lost => {
-                // The capture ends by that.
-                self.capture
-                    .put_step(self.rt, lost, 0, Err(StepFault::Memory));
-                None
-            }
-        }
-    }
-
-    fn made(&self, call: &Call<'_>, line: Option<Vec<u8>>) {
-        if let Some(line) = line {
-            self.capture
-                .put_step(self.rt, Kept::Line(line), call.number, *call.reply);
-        }
-    }
-
-    fn pumped(&self, run: &Run<'_>) {
-        let end = match run.ended {
-            Pumped::Ended(reply) => Some(*reply),
-            Pumped::More => None,
-        };
-        let pumps = Pumps {
-            first: run.first,
-            client: run.client,
-            moment: run.moment,
-            apdus: run.octets,
-            end,
-        };
-        self.capture.put_pumps(self.rt, &pumps);
-    }
 }
 
 /// Tells the journal that a recording ended before the gateway did.

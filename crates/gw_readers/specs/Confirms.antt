@@ -69,7 +69,7 @@ pub record ReadsAll (setup : Setup) (outstation : ℕ) (mine after : Pass) (old 
   pub cut_is : is_cut_off sends ≡ cut
 
 -- a reader went on so, from what it was to what it is
-abbrev pub ReadsFurther : {L N S R W C G : Type 0} → Setup → Reading L N S R W C G → Reading L N S R W C G → Bool → Type 0
+abbrev pub ReadsFurther : {L N S R W C G K : Type 0} → Setup → Reading L N S R W C G K → Reading L N S R W C G K → Bool → Type 0
 ReadsFurther setup old new cut = ReadsAll setup old.outstation old.pass new.pass old.front new.front cut
 
 -- and that is all that the worker sent since it joined the line

@@ -11,10 +11,10 @@ mod outstation_reading;
 
 pub use client_reading::client_reader;
 pub use gw_threads::{
-    Arrival, Batch, Bell, Call, Calls, Clock, CloseFault, Closed, Course, Entry, Figures, Front,
-    Gate, Head, Incoming, Kept, KeptStep, Line, LineCourse, Load, Machine, Made, OpenGate, Opened,
-    Outgoing, Pass, Place, Pumped, Put, Recorder, Reply, Run, Sending, Shared, Step, StepFault,
-    Unwritten, Why, WorkerEnd, apdu_in, client_writer, clock, make_call, open_course,
-    outstation_writer, pause, put_out,
+    Arrival, Batch, Bell, Calls, Clock, CloseFault, Closed, Course, Effects, Entry, Figures, Front,
+    Gate, Head, Incoming, Kept, KeptStep, Line, LineCourse, Load, Machine, Made, Observer,
+    OpenGate, Opened, Outgoing, Pass, Place, PumpRun, Pumps, Put, Recorder, Reply, Sending, Shared,
+    Step, StepFault, StepKind, Unwritten, Why, WorkerEnd, apdu_in, client_writer, clock, make_call,
+    open_course, outstation_writer, pause, put_out,
 };
 pub use outstation_reading::{Patience, outstation_reader};

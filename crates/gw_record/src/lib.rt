@@ -9,8 +9,8 @@ mod tape;
 
 pub use entry::Entry;
 pub use gw_effects::{
-    Answer, Apdu, ApduBuf, ApduKind, Awake, CLIENTS, Effects, Fate, Figures, Judged, Load, Machine,
-    NewsPiece, OUTSTATIONS, OrderCounts, OrderEnd, Pace, Refusal, Reply, Reported, Roused, Step,
+    Answer, Apdu, ApduBuf, ApduKind, Awake, Effects, Fate, Figures, Judged, Load, Machine,
+    NewsPiece, OrderCounts, OrderEnd, Pace, Pumps, Refusal, Reply, Reported, Roused, Step,
     StepFault, StepKind, Tally, Task, UnknownAsdu, Verdict, Why, order_accepted,
 };
 pub use kept::{Kept, KeptStep};

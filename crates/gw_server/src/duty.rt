@@ -7,9 +7,9 @@ use gw_connections::{
     Calls, ClientPasses, Course, Gate, Host, House, OutstationPasses, Pass, Passes, PollPass,
     PumpPass, clock, look_out, serve_outstation, serve_place,
 };
-use gw_model::Memory;
+use gw_model::{CLIENTS, Memory};
 use gw_peers::{Lobby, await_end};
-use gw_watch::{CLIENTS, Site, follow, serve_status};
+use gw_watch::{Site, follow, serve_status};
 
 /// How many threads serve the status: a request that comes slowly, or whose answer is taken slowly, keeps one of them.
 const STATUS_THREADS: u8 = 4;

@@ -7,7 +7,9 @@ mod options;
 mod serving;
 
 pub use gw_clock::{Clock, SystemClock};
-pub use gw_connections::{Call, Closed, Gate, Host, OpenGate, Place, Pumped, Run, Step, StepFault};
+pub use gw_connections::{
+    Closed, Effects, Gate, Host, Observer, OpenGate, Place, Pumps, Reply, Step, StepFault, StepKind,
+};
 pub use gw_journal::{Journal, JournalEvent};
 pub use gw_peers::Network;
 pub use gw_watch::{EventQueue, Identity, ProcessFiles, Values};

@@ -15,11 +15,11 @@ use gw_connections::{
 use gw_hub::Hub;
 use gw_journal::{Journal, JournalEvent};
 use gw_map::Settings;
-use gw_model::Memory;
+use gw_model::{CLIENTS, Memory};
 use gw_peers::{Board, Desk, Lobby, Plan, accept, plans_of};
 use gw_running::close;
 use gw_shared::{Made, Opened, open_course};
-use gw_watch::{CLIENTS, Identity, Site, Watched};
+use gw_watch::{Identity, Site, Watched};
 use std::alloc::Global;
 use std::io;
 use std::marker::Brand;

@@ -1,8 +1,8 @@
 //! The bells of the workers that write.
 
 use gw_bell::Bell;
-use gw_model::Memory;
-use gw_record::{CLIENTS, OUTSTATIONS, Roused};
+use gw_model::{CLIENTS, Memory, OUTSTATIONS};
+use gw_record::Roused;
 use std::alloc::Global;
 
 /// A bell for each writer towards an outstation, and for that of each client.

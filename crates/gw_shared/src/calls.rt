@@ -7,7 +7,7 @@ ghost use Rattle.gw_shared.specs.Turn.{Answers};
 
 use crate::course::Course;
 use crate::pass::Pass;
-use crate::pumped::Pumped;
+use crate::pumped::PumpRun;
 use gw_bell::Bell;
 use gw_ends::Batch;
 use gw_model::Observation;
@@ -35,10 +35,10 @@ pub trait Calls<L: Course> {
         client: u8,
         moment: u64,
         batch: &mut Batch,
-    ) -> Pumped
+    ) -> PumpRun
         requires may { MayMake L.roles pass.old.actor (steps.Pump client moment) }
-        ensures run { IsPumpedRun L.setup client pass.old pass.new batch.old batch.new result }
-        ensures more { MayGoOn pass.old pass.new batch.new result }
+        ensures run { IsPumpedRun L.setup client pass.old pass.new batch.old batch.new result.ended }
+        ensures more { MayGoOn pass.old pass.new batch.new result.ended }
         ensures own { pass.new.actor ≡ pass.old.actor };
 
     /// The bell that rings where something may be due towards an outstation; none beyond the 32nd.

@@ -19,11 +19,11 @@ pub use course::{Course, Made, open_course};
 pub use gw_bell::Bell;
 pub use gw_record::{
     Answer, Apdu, ApduBuf, ApduKind, Effects, Entry, Fate, Figures, Judged, Kept, KeptStep, Load,
-    Machine, NewsPiece, OrderCounts, OrderEnd, Recorder, Refusal, Reply, Reported, Step, StepFault,
-    StepKind, Task, UnknownAsdu, Verdict, Why, order_accepted,
+    Machine, NewsPiece, OrderCounts, OrderEnd, Pumps, Recorder, Refusal, Reply, Reported, Step,
+    StepFault, StepKind, Task, UnknownAsdu, Verdict, Why, order_accepted,
 };
 pub use locked::Core;
 pub use one_log::Opened;
 pub use pass::Pass;
-pub use pumped::Pumped;
+pub use pumped::{PumpRun, Pumped};
 pub use shared::Shared;

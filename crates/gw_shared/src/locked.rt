@@ -14,7 +14,7 @@ ghost use Rattle.gw_shared.specs.Turn.{last_call, pass_at, pass_behind, Answers,
 
 use crate::course::{Course, Made};
 use crate::pass::Pass;
-use crate::pumped::Pumped;
+use crate::pumped::{PumpRun, Pumped};
 use gw_ends::{Batch, LONGEST_APDU, apdu_in};
 use gw_model::{Memory, Observation};
 use gw_record::{
@@ -166,22 +166,32 @@ impl<L: Course, M: Machine> Core<L, M> {
 
     /// Pumps for a client at a moment, one call after another, and puts the APDUs into a batch: until an answer is
     /// none, or there is no room for one more.
-    pub fn pump(&mut self, pass: &mut Pass<L>, client: u8, moment: u64, batch: &mut Batch) -> Pumped
+    pub fn pump(
+        &mut self,
+        pass: &mut Pass<L>,
+        client: u8,
+        moment: u64,
+        batch: &mut Batch,
+    ) -> PumpRun
         requires may { MayMake L.roles pass.old.actor (steps.Pump client moment) }
         ensures made { IsMadeInto L.setup (steps.Pump client moment) self.old self.new pass.old pass.new batch.old batch.new }
-        ensures run { IsPumpedRun L.setup client pass.old pass.new batch.old batch.new result }
-        ensures more { MayGoOn pass.old pass.new batch.new result }
+        ensures run { IsPumpedRun L.setup client pass.old pass.new batch.old batch.new result.ended }
+        ensures more { MayGoOn pass.old pass.new batch.new result.ended }
         ensures own { pass.new.actor ≡ pass.old.actor }
     {
+        let mut first = 0;
         'pumps: for _made in 0..MOST_PUMPS {
-            if let Some(pumped) = self.pump_next(pass, client, moment, batch) {
-                return pumped;
+            if let Some(ended) = self.pump_next(pass, client, moment, batch, &mut first) {
+                return PumpRun { first, ended };
             }
         }
-        Pumped::More
+        PumpRun {
+            first,
+            ended: Pumped::More,
+        }
     }
 
-    /// Pumps once; how the run ended, if it did.
+    /// Pumps once; how the run ended, if it did. The first call of a run leaves its number.
     #[tactic(auto, using(crate::proofs::Pumping::pump_laws))]
     fn pump_next(
         &mut self,
@@ -189,6 +199,7 @@ impl<L: Course, M: Machine> Core<L, M> {
         client: u8,
         moment: u64,
         batch: &mut Batch,
+        first: &mut u64,
     ) -> Option<Pumped>
         requires may { MayMake L.roles pass.old.actor (steps.Pump client moment) }
         ensures made { IsMadeInto L.setup (steps.Pump client moment) self.old self.new pass.old pass.new batch.old batch.new }
@@ -200,7 +211,9 @@ impl<L: Course, M: Machine> Core<L, M> {
             return Some(Pumped::More);
         }
         let ((number, answer), _) = self.answer(pass, Step::Pump { client, moment });
-        batch.number(number);
+        if *first == 0 {
+            *first = number;
+        }
         match apdu_in(answer) {
             Some(apdu) => {
                 batch.add(apdu.as_slice());

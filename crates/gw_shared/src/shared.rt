@@ -9,7 +9,7 @@ use crate::calls::Calls;
 use crate::course::{Course, Made};
 use crate::locked::Core;
 use crate::pass::Pass;
-use crate::pumped::Pumped;
+use crate::pumped::PumpRun;
 use gw_bell::Bell;
 use gw_ends::Batch;
 use gw_model::{Memory, Observation};
@@ -194,7 +194,7 @@ impl<L: Course, M: Machine> Calls<L> for Shared<L, M> {
         client: u8,
         moment: u64,
         batch: &mut Batch,
-    ) -> Pumped {
+    ) -> PumpRun {
         self.core.lock(rt).pump(pass, client, moment, batch)
     }
 

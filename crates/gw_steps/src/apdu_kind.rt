@@ -37,18 +37,18 @@ impl ApduKind {
         ensures { result ≡ kind_of apdu.now }
     {
         match apdu {
-            Apdu::I { asdu, .. } => kind_in(asdu.as_slice()),
+            Apdu::I { asdu, .. } => ApduKind::of_asdu(asdu.as_slice()),
             Apdu::S { .. } => ApduKind::SFormat,
             Apdu::U(signal) => ApduKind::UFormat(*signal),
         }
     }
-}
 
-/// What an I format with these octets of an ASDU is.
-fn kind_in(octets: &[u8]) -> ApduKind
-    ensures { result ≡ kind_in octets.now }
-{
-    kind_read(octets, read_command(octets))
+    /// What an I format with these octets of an ASDU is.
+    pub fn of_asdu(octets: &[u8]) -> ApduKind
+        ensures { result ≡ kind_in octets.now }
+    {
+        kind_read(octets, read_command(octets))
+    }
 }
 
 /// The same, where the octets were read so.

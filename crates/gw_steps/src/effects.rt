@@ -11,16 +11,13 @@ use circular_buffer::HeapCircularBuffer;
 use dnp_app::{Operation, Response};
 use dnp_master::{CommandAnswer, Taken, Task};
 use gw_control::{Accepted, Answer, Outgoing, Refusal, UnderWay};
-use gw_model::{Ended, Memory, Report};
+use gw_model::{CLIENTS, Ended, Memory, Report};
 use iec_command::Command;
 use std::alloc::Global;
 use std::marker::Model;
 
 /// How many orders of an outstation may end at once: 16 that wait, and the one that is under way.
 const ORDERS: usize = 17;
-
-/// How many clients there can be.
-const CLIENTS: usize = 8;
 
 /// What became of an order.
 #[derive(Clone, Copy)]
@@ -87,11 +84,11 @@ pub struct Effects {
     reported: Option<Reported>,
     ended: HeapCircularBuffer<OrderEnd>,
     unanswered: HeapCircularBuffer<usize>,
-    dropped: [u64; CLIENTS],
+    dropped: [u64; CLIENTS as usize],
     news: u64,
     acknowledged: usize,
     due_outstations: HeapCircularBuffer<usize>,
-    due_clients: [bool; CLIENTS],
+    due_clients: [bool; CLIENTS as usize],
 }
 
 impl Model for Effects {
@@ -134,11 +131,11 @@ impl Effects {
             reported: None,
             ended: HeapCircularBuffer::with_capacity(alloc, ORDERS * outstations)?,
             unanswered: HeapCircularBuffer::with_capacity(alloc, outstations)?,
-            dropped: [0; CLIENTS],
+            dropped: [0; CLIENTS as usize],
             news: 0,
             acknowledged: 0,
             due_outstations: HeapCircularBuffer::with_capacity(alloc, outstations)?,
-            due_clients: [false; CLIENTS],
+            due_clients: [false; CLIENTS as usize],
         })
     }
 
@@ -152,11 +149,11 @@ impl Effects {
         self.reported = None;
         self.ended.clear();
         self.unanswered.clear();
-        self.dropped = [0; CLIENTS];
+        self.dropped = [0; CLIENTS as usize];
         self.news = 0;
         self.acknowledged = 0;
         self.due_outstations.clear();
-        self.due_clients = [false; CLIENTS];
+        self.due_clients = [false; CLIENTS as usize];
     }
 
     /// What the APDU was that a client sent, if one did.
@@ -203,7 +200,7 @@ impl Effects {
 
     /// For each client whether its writer may have something to do: whether something may be put out to it, or it came or
     /// went.
-    pub fn due_clients(&self) -> [bool; CLIENTS]
+    pub fn due_clients(&self) -> [bool; CLIENTS as usize]
         ensures { result ≡ self.now.told.due_clients }
     {
         self.due_clients
@@ -231,7 +228,7 @@ impl Effects {
     }
 
     /// For each client how many news were dropped in its session, where that ended.
-    pub fn dropped(&self) -> [u64; CLIENTS]
+    pub fn dropped(&self) -> [u64; CLIENTS as usize]
         ensures { result ≡ self.now.told.dropped }
     {
         self.dropped
@@ -291,7 +288,7 @@ impl Effects {
     }
 
     /// And those of these clients.
-    pub fn rouse_clients(&mut self, clients: [bool; CLIENTS])
+    pub fn rouse_clients(&mut self, clients: [bool; CLIENTS as usize])
         ensures { self.new ≡ record self.old { told = record self.old.told { due_clients = clients } } }
     {
         self.due_clients = clients;
@@ -316,7 +313,7 @@ impl Effects {
     }
 
     /// So much was dropped for the clients whose sessions end.
-    pub fn drop_news(&mut self, dropped: [u64; CLIENTS])
+    pub fn drop_news(&mut self, dropped: [u64; CLIENTS as usize])
         ensures { self.new ≡ record self.old { told = record self.old.told { dropped = dropped } } }
     {
         self.dropped = dropped;
@@ -332,7 +329,12 @@ impl Effects {
     }
 
     /// The orders that wait for an outstation of clients whose sessions end are let go.
-    fn let_go_at(&mut self, outstation: usize, leaving: &[bool; CLIENTS], outgoing: &Outgoing)
+    fn let_go_at(
+        &mut self,
+        outstation: usize,
+        leaving: &[bool; CLIENTS as usize],
+        outgoing: &Outgoing,
+    )
         requires room { length self.old.told.ended + 16 ≤ 17 * self.old.room }
         ensures told { self.new
             ≡ with_ends (map (order_end outstation LetGo) (filter (is_of_leaving leaving.now) outgoing.now.waiting)) self.old }
@@ -346,7 +348,12 @@ impl Effects {
     }
 
     /// An order that waits is let go, where the session of its client ends.
-    fn let_go_order(&mut self, outstation: usize, leaving: &[bool; CLIENTS], accepted: &Accepted)
+    fn let_go_order(
+        &mut self,
+        outstation: usize,
+        leaving: &[bool; CLIENTS as usize],
+        accepted: &Accepted,
+    )
         requires room { length self.old.told.ended < 17 * self.old.room }
         ensures { self.new
             ≡ with_ends (map (order_end outstation LetGo) (filter (is_of_leaving leaving.now) (accepted.now ∷ []))) self.old }
@@ -357,7 +364,7 @@ impl Effects {
     }
 
     /// The orders that wait of clients whose sessions end are let go.
-    pub fn let_go(&mut self, leaving: &[bool; CLIENTS], outgoing: &[Outgoing])
+    pub fn let_go(&mut self, leaving: &[bool; CLIENTS as usize], outgoing: &[Outgoing])
         requires empty { self.old.told.ended ≡ [] }
         requires room { length outgoing.now ≤ self.old.room }
         ensures told { self.new ≡ with_ends (let_go leaving.now 0 outgoing.now) self.old }
@@ -433,17 +440,17 @@ fn event_count(reports: &[Report]) -> usize
 }
 
 /// A client's count is this.
-fn change_count(counts: &mut [u64; CLIENTS], client: u8, count: u64)
+fn change_count(counts: &mut [u64; CLIENTS as usize], client: u8, count: u64)
     ensures { counts.new ≡ change client (λ _. count) counts.old }
 {
     let position = usize::from(client);
-    if position < CLIENTS {
+    if client < CLIENTS {
         counts[position] = count;
     }
 }
 
 /// Whether it is so of a client.
-fn is_so(leaving: &[bool; CLIENTS], client: u8) -> bool
+fn is_so(leaving: &[bool; CLIENTS as usize], client: u8) -> bool
     ensures { result ≡ is_so (slice_get leaving.now client) }
 {
     match leaving.get(usize::from(client)) {
@@ -476,12 +483,12 @@ pub fn fate_answered(answer: CommandAnswer) -> Fate
 }
 
 /// This client alone.
-pub fn only(client: u8) -> [bool; CLIENTS]
+pub fn only(client: u8) -> [bool; CLIENTS as usize]
     ensures { result ≡ only client }
 {
-    let mut clients = [false; CLIENTS];
+    let mut clients = [false; CLIENTS as usize];
     let position = usize::from(client);
-    if position < CLIENTS {
+    if client < CLIENTS {
         clients[position] = true;
     }
     clients

@@ -7,6 +7,7 @@ mod apdu_kind;
 mod effects;
 mod examples;
 mod machine;
+mod pumps;
 mod step;
 
 pub use apdu_kind::{ApduKind, UnknownAsdu};
@@ -17,4 +18,5 @@ pub use gw_control::{Accepted, Outgoing};
 pub use gw_station::{NewsPiece, Why};
 pub use iec_apci::{Apdu, ApduBuf, Signal};
 pub use machine::Machine;
+pub use pumps::Pumps;
 pub use step::{Reply, Step, StepFault, StepKind};

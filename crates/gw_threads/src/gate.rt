@@ -1,8 +1,8 @@
-//! Where workers can be watched, and held.
+//! Where workers can be held, and what they tell besides their steps.
 
-use crate::call::{Call, Run};
+use crate::observer::Observer;
 use dnp_app::AppFault;
-use gw_shared::Step;
+use gw_shared::{Effects, Pumps, Reply, Step, StepFault, StepKind};
 
 /// A place on the way of a worker.
 #[derive(Clone, Copy)]
@@ -26,9 +26,9 @@ pub struct FrameHeader {
     pub destination: u16,
 }
 
-/// What is told of the workers' ways, where no lock is held. A call that takes its time holds the worker. All but
-/// `at` may be left out.
-pub trait Gate {
+/// What is told of the workers' ways besides their steps, where no lock is held. A call that takes its time holds the worker.
+/// All but `at` may be left out.
+pub trait Gate: Observer {
     /// An actor has come to a place.
     fn at(&self, actor: usize, place: Place);
 
@@ -47,24 +47,30 @@ pub trait Gate {
     /// An outstation doesn't answer the request for the status of its link, and isn't asked again.
     fn status_unanswered(&self, _outstation: u8) {}
 
-    /// A step is about to be made: the line that is kept of it, where steps are taken down.
-    fn line_of(&self, _step: &Step) -> Option<Vec<u8>> {
-        None
-    }
-
-    /// A step was made, other than those of a run of pumps: the line that was kept of it is given back.
-    fn made(&self, _call: &Call<'_>, _line: Option<Vec<u8>>) {}
-
-    /// A run of pumps was made.
-    fn pumped(&self, _run: &Run<'_>) {}
-
     /// The host stood still: so many milliseconds have passed since the last tick.
     fn stood_still(&self, _milliseconds: u64) {}
 }
 
-/// A gate that holds nobody.
+/// A gate that holds nobody, and tells nobody.
 #[derive(Clone, Copy)]
 pub struct OpenGate;
+
+impl Observer for OpenGate {
+    type Kept = ();
+
+    fn keep(&self, _step: &Step) {}
+
+    fn step(
+        &self,
+        _kept: (),
+        _number: u64,
+        _kind: StepKind,
+        _reply: &Result<Reply, StepFault>,
+        _effects: &Effects,
+    ) {}
+
+    fn pumps(&self, _pumps: &Pumps<'_>) {}
+}
 
 impl Gate for OpenGate {
     fn at(&self, _actor: usize, _place: Place) {}

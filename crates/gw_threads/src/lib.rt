@@ -9,12 +9,13 @@ pub mod examples;
 mod gate;
 pub mod laws;
 mod lost;
+mod observer;
 mod outstation_writing;
 mod source;
 mod standstill;
 mod ticking;
 
-pub use call::{Call, Run, control_command, make_call};
+pub use call::make_call;
 pub use client_writing::client_writer;
 pub use gate::{FrameHeader, Gate, OpenGate, Place};
 pub use gw_clock::Clock;
@@ -25,9 +26,10 @@ pub use gw_ends::{
 pub use gw_shared::{
     Answer, ApduKind, Bell, Calls, CloseFault, Closed, Core, Course, Effects, Entry, Fate, Figures,
     Judged, Kept, KeptStep, Load, Machine, Made, NewsPiece, Opened, OrderCounts, OrderEnd, Pass,
-    Pumped, Recorder, Refusal, Reply, Reported, Shared, Step, StepFault, StepKind, Task,
-    UnknownAsdu, Verdict, Why, open_course, order_accepted,
+    PumpRun, Pumped, Pumps, Recorder, Refusal, Reply, Reported, Shared, Step, StepFault, StepKind,
+    Task, UnknownAsdu, Verdict, Why, open_course, order_accepted,
 };
 pub use lost::{lose_client, lose_outstation};
+pub use observer::Observer;
 pub use outstation_writing::outstation_writer;
 pub use ticking::{clock, pause};

@@ -3,12 +3,11 @@ ghost use Rattle.std.specs.Prelude.{◌≡◌};
 ghost use Rattle.gw_shared.specs.Roles.{IsOne};
 ghost use Rattle.gw_threads.specs.Written.{gathered_by, GivesTo, TellsLoss};
 
-use crate::call::Run;
 use crate::gate::{Gate, Place};
 use crate::lost::lose_client;
 use gw_clock::Clock;
 use gw_ends::{Batch, Gathered, Source};
-use gw_shared::{Calls, Course, Pass, Pumped};
+use gw_shared::{Calls, Course, Pass, Pumped, Pumps};
 use std::marker::Model;
 use std::sync::Wait;
 
@@ -111,17 +110,17 @@ impl<'a, L: Course, S: Calls<L>, R: Wait, C: Clock, G: Gate> Source
             return Gathered::Ended(None);
         }
         let moment = self.clock.moment();
-        let pumped = self
+        let run = self
             .shared
             .pump(self.rt, &mut self.pass, self.client, moment, batch);
-        self.gate.pumped(&Run {
-            first: batch.first_call(),
+        self.gate.pumps(&Pumps {
+            first: run.first,
             client: self.client,
             moment,
-            octets: batch.as_slice(),
-            ended: &pumped,
+            apdus: batch.as_slice(),
+            end: run.ended.end(),
         });
-        gathered_by(pumped)
+        gathered_by(run.ended)
     }
 
     fn before_write(&self) {

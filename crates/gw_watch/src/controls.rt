@@ -4,7 +4,7 @@
 use gw_journal::{CommandEvent, JournalEvent, OrderEvent, Reason};
 use gw_peers::Desk;
 use gw_threads::{
-    ApduKind, Call, Clock, Fate, OrderEnd, Reply, Run, StepKind, control_command, order_accepted,
+    ApduKind, Clock, Effects, Fate, OrderEnd, Pumps, Reply, StepKind, order_accepted,
 };
 use iec_apci::Apdus;
 use iec_command::Command;
@@ -15,15 +15,20 @@ use std::sync::Wait;
 const FRONT: usize = 6;
 
 /// Tells what a step did with a control, if it did something.
-pub fn tell_of_controls<R: Wait, C: Clock>(desk: &Desk<'_, R, C>, call: &Call<'_>) {
-    match (call.kind, call.reply) {
-        (StepKind::Frame(client), Ok(_)) => {
-            if let Some(ApduKind::Command(command)) = call.effects.apdu() {
-                let order = order_accepted(call.effects);
+pub fn tell_of_controls<R: Wait, C: Clock>(
+    desk: &Desk<'_, R, C>,
+    kind: StepKind,
+    reply: &Reply,
+    effects: &Effects,
+) {
+    match (kind, reply) {
+        (StepKind::Frame(client), _) => {
+            if let Some(ApduKind::Command(command)) = effects.apdu() {
+                let order = order_accepted(effects);
                 tell_command(desk, client, command, CommandEvent::Came { order });
             }
         }
-        (StepKind::Poll(outstation), Ok(Reply::Request(request))) => {
+        (StepKind::Poll(outstation), Reply::Request(request)) => {
             if let Some(order) = request.bond {
                 // The command comes first, and what became of the order before.
                 desk.board.sequence.settle(desk.rt);
@@ -34,20 +39,23 @@ pub fn tell_of_controls<R: Wait, C: Clock>(desk: &Desk<'_, R, C>, call: &Call<'_
     }
 }
 
-/// Notes what a client is to be told of its command: that it is an order, or why it is refused.
-pub fn note_refusal<R: Wait, C: Clock>(desk: &Desk<'_, R, C>, call: &Call<'_>) {
-    let (StepKind::Frame(client), Some(judged)) = (call.kind, call.effects.command()) else {
+/// Notes what a client is to be told of the command that came by the step of this number, if one did: that it is an order, or
+/// why it is refused.
+pub fn note_refusal<R: Wait, C: Clock>(
+    desk: &Desk<'_, R, C>,
+    step: u64,
+    client: u8,
+    effects: &Effects,
+) {
+    let (Some(card), Some(judged)) = (desk.board.client(client), effects.command()) else {
         return;
     };
-    let Some(card) = desk.board.client(client) else {
-        return;
-    };
-    if let Some(order) = order_accepted(call.effects) {
+    if let Some(order) = order_accepted(effects) {
         card.reasons.lock(desk.rt).accept(order);
     } else if let Some(refusal) = judged.refusal {
         card.figures.lock(desk.rt).refused(refusal);
         let (mut reasons, reason) = (card.reasons.lock(desk.rt), Reason::Refused(refusal));
-        reasons.refuse(call.number, &judged.command, reason);
+        reasons.refuse(step, &judged.command, reason);
     }
 }
 
@@ -62,17 +70,17 @@ fn note_failure<R: Wait, C: Clock>(desk: &Desk<'_, R, C>, step: u64, end: &Order
     }
 }
 
-/// Tells what a client is told of its commands for controls by a run of pumps, behind what led to that.
-pub fn tell_of_commands<R: Wait, C: Clock>(desk: &Desk<'_, R, C>, run: &Run<'_>) {
+/// Tells what a client is told of its commands for controls by pumps, behind what led to that.
+pub fn tell_of_commands<R: Wait, C: Clock>(desk: &Desk<'_, R, C>, pumps: &Pumps<'_>) {
     let mut is_settled = false;
-    for apdu in Apdus(run.octets) {
+    for apdu in Apdus(pumps.apdus) {
         if let Some(command) = command_in(apdu) {
             if !is_settled {
                 desk.board.sequence.settle(desk.rt);
                 is_settled = true;
             }
-            let reason = reason_of(desk, run.client, &command);
-            tell_command(desk, run.client, command, CommandEvent::Told { reason });
+            let reason = reason_of(desk, pumps.client, &command);
+            tell_command(desk, pumps.client, command, CommandEvent::Told { reason });
         }
     }
 }
@@ -134,5 +142,8 @@ pub fn tell_end<R: Wait, C: Clock>(desk: &Desk<'_, R, C>, step: u64, end: &Order
 
 /// The command for a control in an APDU, if there is one.
 fn command_in(apdu: &[u8]) -> Option<Command> {
-    control_command(apdu.get(FRONT..)?)
+    match ApduKind::of_asdu(apdu.get(FRONT..)?) {
+        ApduKind::Command(command) => Some(command),
+        _ => None,
+    }
 }

@@ -16,7 +16,7 @@ pub use event_queue::EventQueue;
 pub use following::follow;
 pub use gw_status::Identity;
 pub use process::ProcessFiles;
-pub use site::{CLIENTS, OUTSTATIONS, Site};
+pub use site::Site;
 pub use status::serve_status;
 pub use values::Values;
 pub use watched::Watched;

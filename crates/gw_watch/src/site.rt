@@ -4,15 +4,10 @@ ghost use Rattle.std.specs.Prelude.{◌≤◌};
 use crate::event_queue::EventQueue;
 use crate::process::ProcessFiles;
 use crate::values::Values;
+use gw_model::OUTSTATIONS;
 use gw_peers::{Door, Plan};
 use gw_status::Identity;
 use std::net::TcpListener;
-
-/// How many outstations there can be.
-pub const OUTSTATIONS: u8 = 32;
-
-/// How many clients there can be.
-pub const CLIENTS: u8 = 8;
 
 /// What is served.
 #[derive(Drop)]

@@ -1,13 +1,13 @@
-//! The server's gate: it keeps what is known of each peer, tells the journal what an operator should know, and hands on
-//! to the gate that it was given. No lock of the core is held here.
+//! The server's observer and gate: it keeps what is known of each peer, tells the journal what an operator should know, and
+//! hands on to the gate that it was given. No lock of the core is held here.
 
 use crate::controls::{note_refusal, tell_end, tell_of_commands, tell_of_controls};
 use dnp_app::AppFault;
 use gw_journal::{JournalEvent, Unreadable, Way};
 use gw_peers::{Desk, Source};
 use gw_threads::{
-    ApduKind, Call, Clock, FrameHeader, Gate, Place, Reply, Reported, Run, Step, StepKind,
-    UnknownAsdu, Verdict,
+    ApduKind, Clock, Effects, FrameHeader, Gate, Observer, Place, Pumps, Reply, Reported, Step,
+    StepFault, StepKind, UnknownAsdu, Verdict,
 };
 use iec_apci::{Apdu, Apdus, Signal};
 use std::sync::Wait;
@@ -128,11 +128,11 @@ fn asked_unknown<R: Wait, C: Clock>(desk: &Desk<'_, R, C>, client: u8, asdu: Unk
     }
 }
 
-/// A client is tested, where the APDUs that it is given by a run of pumps have a TESTFR act.
-fn tested<R: Wait, C: Clock>(desk: &Desk<'_, R, C>, run: &Run<'_>) {
-    if Apdus(run.octets).any(|apdu| apdu.get(CONTROL) == Some(&TEST_ACT)) {
-        if let Some(card) = desk.board.client(run.client) {
-            card.tests(desk.rt, run.moment);
+/// A client is tested, where the APDUs that it is given by pumps have a TESTFR act.
+fn tested<R: Wait, C: Clock>(desk: &Desk<'_, R, C>, pumps: &Pumps<'_>) {
+    if Apdus(pumps.apdus).any(|apdu| apdu.get(CONTROL) == Some(&TEST_ACT)) {
+        if let Some(card) = desk.board.client(pumps.client) {
+            card.tests(desk.rt, pumps.moment);
         }
     }
 }
@@ -158,42 +158,87 @@ fn signalled<R: Wait, C: Clock>(desk: &Desk<'_, R, C>, client: u8, signal: Signa
     }
 }
 
-/// Notes what a step did, and tells of it.
-fn made<R: Wait, C: Clock>(desk: &Desk<'_, R, C>, call: &Call<'_>) {
-    match (call.kind, call.reply) {
-        (StepKind::Fragment(outstation), Ok(Reply::Verdict(Verdict::Accepted { end, .. }))) => {
-            if let Some(reported) = call.effects.reported() {
-                answered(desk, call.number, outstation, &reported, *end);
+/// Notes what the step of this number was answered, and tells of it.
+fn tell_reply<R: Wait, C: Clock>(
+    desk: &Desk<'_, R, C>,
+    number: u64,
+    kind: StepKind,
+    reply: &Reply,
+    effects: &Effects,
+) {
+    match (kind, reply) {
+        (StepKind::Fragment(outstation), Reply::Verdict(Verdict::Accepted { end, .. })) => {
+            if let Some(reported) = effects.reported() {
+                answered(desk, number, outstation, &reported, *end);
             }
         }
-        (StepKind::Poll(outstation), Ok(Reply::Request(_))) => asked(desk, outstation),
-        (StepKind::OutstationDown(outstation), Ok(Reply::Done)) => lost(desk, outstation),
-        (StepKind::Tick, Ok(Reply::Ticked { closed })) => {
+        (StepKind::Poll(outstation), Reply::Request(_)) => asked(desk, outstation),
+        (StepKind::OutstationDown(outstation), Reply::Done) => lost(desk, outstation),
+        (StepKind::Tick, Reply::Ticked { closed }) => {
             desk.board.pulse.beat(desk.clock.moment());
             expired(desk, *closed);
         }
-        (StepKind::Frame(client), Ok(Reply::Taken)) => {
-            if let Some(kind) = call.effects.apdu() {
+        (StepKind::Frame(client), Reply::Taken) => {
+            if let Some(kind) = effects.apdu() {
                 heard(desk, client, kind);
             }
         }
         _ => {}
     }
-    tell_of_controls(desk, call);
-    // Of a call that was refused the effects are those of the one before.
-    if call.reply.is_ok() {
-        tell_of_effects(desk, call);
+    tell_of_controls(desk, kind, reply, effects);
+}
+
+/// Tells what the step of this number did besides its reply.
+fn tell_effects<R: Wait, C: Clock>(
+    desk: &Desk<'_, R, C>,
+    number: u64,
+    kind: StepKind,
+    effects: &Effects,
+) {
+    for outstation in effects.unanswered().iter() {
+        unanswered(desk, number, *outstation);
+    }
+    if let StepKind::Frame(client) = kind {
+        note_refusal(desk, number, client, effects);
+    }
+    for end in effects.ended().iter() {
+        tell_end(desk, number, end);
     }
 }
 
-/// Tells what a step did besides its reply.
-fn tell_of_effects<R: Wait, C: Clock>(desk: &Desk<'_, R, C>, call: &Call<'_>) {
-    for outstation in call.effects.unanswered().iter() {
-        unanswered(desk, call.number, *outstation);
+impl<'a, R: Wait, C: Clock, G: Gate> Observer for Watched<'a, R, C, G> {
+    type Kept = G::Kept;
+
+    fn keep(&self, step: &Step) -> G::Kept {
+        if let Some(source) = source_of(step.kind()) {
+            self.desk.board.sequence.begin(self.desk.rt, source);
+        }
+        foresee(self.desk, step);
+        self.gate.keep(step)
     }
-    note_refusal(desk, call);
-    for end in call.effects.ended().iter() {
-        tell_end(desk, call.number, end);
+
+    fn step(
+        &self,
+        kept: G::Kept,
+        number: u64,
+        kind: StepKind,
+        reply: &Result<Reply, StepFault>,
+        effects: &Effects,
+    ) {
+        if let Ok(reply) = reply {
+            tell_reply(self.desk, number, kind, reply, effects);
+            tell_effects(self.desk, number, kind, effects);
+        }
+        self.gate.step(kept, number, kind, reply, effects);
+        if let Some(source) = source_of(kind) {
+            self.desk.board.sequence.end(self.desk.rt, source);
+        }
+    }
+
+    fn pumps(&self, pumps: &Pumps<'_>) {
+        tested(self.desk, pumps);
+        tell_of_commands(self.desk, pumps);
+        self.gate.pumps(pumps);
     }
 }
 
@@ -241,28 +286,6 @@ impl<'a, R: Wait, C: Clock, G: Gate> Gate for Watched<'a, R, C, G> {
         self.gate.status_unanswered(outstation);
         self.desk
             .tell(JournalEvent::LinkStatusUnanswered { outstation });
-    }
-
-    fn line_of(&self, step: &Step) -> Option<Vec<u8>> {
-        if let Some(source) = source_of(step.kind()) {
-            self.desk.board.sequence.begin(self.desk.rt, source);
-        }
-        foresee(self.desk, step);
-        self.gate.line_of(step)
-    }
-
-    fn made(&self, call: &Call<'_>, line: Option<Vec<u8>>) {
-        made(self.desk, call);
-        self.gate.made(call, line);
-        if let Some(source) = source_of(call.kind) {
-            self.desk.board.sequence.end(self.desk.rt, source);
-        }
-    }
-
-    fn pumped(&self, run: &Run<'_>) {
-        tested(self.desk, run);
-        tell_of_commands(self.desk, run);
-        self.gate.pumped(run);
     }
 
     fn stood_still(&self, milliseconds: u64) {

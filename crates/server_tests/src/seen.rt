@@ -1,6 +1,6 @@
 //! A gate that holds nobody, and counts what the server is about to write.
 
-use gw_server::{Gate, Place};
+use gw_server::{Effects, Gate, Observer, Place, Pumps, Reply, Step, StepFault, StepKind};
 use std::rt::Clock;
 use std::sync::atomic::{AtomicU64, Ordering};
 use std::thread;
@@ -23,6 +23,23 @@ pub struct Seen {
     pub requests: AtomicU64,
     pub apdus: AtomicU64,
     pub responses: AtomicU64,
+}
+
+impl Observer for Seen {
+    type Kept = ();
+
+    fn keep(&self, _step: &Step) {}
+
+    fn step(
+        &self,
+        _kept: (),
+        _number: u64,
+        _kind: StepKind,
+        _reply: &Result<Reply, StepFault>,
+        _effects: &Effects,
+    ) {}
+
+    fn pumps(&self, _pumps: &Pumps<'_>) {}
 }
 
 impl Gate for Seen {

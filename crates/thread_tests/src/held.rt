@@ -1,11 +1,11 @@
 //! A gate that holds workers until clients have taken an interrogation's termination, and one of them until others are held.
 
-use gw_threads::Call;
+use gw_threads::{Effects, Observer, Pumps, StepKind};
 use std::rt::Clock;
 use std::sync::atomic::{AtomicBool, AtomicU64, Ordering};
 use std::thread;
 use std::time::Duration;
-use test_tools::{Gate, Place, Reply};
+use test_tools::{Gate, Place, Reply, Step, StepFault};
 
 /// How often a worker that is held looks whether it may go on, a millisecond apart.
 const LOOKS: u16 = 10_000;
@@ -101,6 +101,27 @@ impl<'a, R: Clock> Held<'a, R> {
     }
 }
 
+impl<'a, R> Observer for Held<'a, R> {
+    type Kept = ();
+
+    fn keep(&self, _step: &Step) {}
+
+    fn step(
+        &self,
+        _kept: (),
+        _number: u64,
+        _kind: StepKind,
+        reply: &Result<Reply, StepFault>,
+        _effects: &Effects,
+    ) {
+        if let Ok(Reply::Ticked { .. }) = reply {
+            self.ticks.fetch_add(1, Ordering::SeqCst);
+        }
+    }
+
+    fn pumps(&self, _pumps: &Pumps<'_>) {}
+}
+
 impl<'a, R: Clock> Gate for Held<'a, R> {
     fn at(&self, actor: usize, place: Place) {
         // The test has failed: nobody is held any more.
@@ -127,12 +148,6 @@ impl<'a, R: Clock> Gate for Held<'a, R> {
         };
         if !is_in_time {
             self.is_late.store(true, Ordering::SeqCst);
-        }
-    }
-
-    fn made(&self, call: &Call<'_>, _line: Option<Vec<u8>>) {
-        if let Ok(Reply::Ticked { .. }) = call.reply {
-            self.ticks.fetch_add(1, Ordering::SeqCst);
         }
     }
 }

@@ -2,12 +2,12 @@ use Rattle.std.proofs.Common.{refl, arith}
 use Rattle.gw_control.proofs.Places.{changed_at, changed_past}
 use Rattle.gw_steps.proofs.effects.change_count.Goals as goal
 
-pub returns-then-position-lt-CLIENTS : goal.returns-then-position-lt-CLIENTS
-returns-then-position-lt-CLIENTS c =
+pub returns-then-client-lt-CLIENTS : goal.returns-then-client-lt-CLIENTS
+returns-then-client-lt-CLIENTS c =
     changed_at c.args.client c.from-position.result (λ _. c.args.count) c.args.counts.now c.args.count
-    c.args.count c.from-position.ensures (omega (arith, c.told-counts, c.if-position-lt-CLIENTS.true)) refl
+    c.args.count c.from-position.ensures (omega (arith, c.told-counts, c.from-position.ensures, c.if-client-lt-CLIENTS.true)) refl
 
-pub returns-else-position-lt-CLIENTS : goal.returns-else-position-lt-CLIENTS
-returns-else-position-lt-CLIENTS c =
+pub returns-else-client-lt-CLIENTS : goal.returns-else-client-lt-CLIENTS
+returns-else-client-lt-CLIENTS c =
     changed_past c.args.client (λ _. c.args.count) c.args.counts.now
-    (omega (arith, c.told-counts, c.from-position.ensures, c.if-position-lt-CLIENTS.false))
+    (omega (arith, c.told-counts, c.from-position.ensures, c.if-client-lt-CLIENTS.false))

@@ -7,11 +7,11 @@ pub returns-in-Some-clause-made : goal.returns-in-Some-clause-made
 returns-in-Some-clause-made g c = made_then _ _ _ _ _ _ _ _ _ _ _ c.pumps.invariant.made c.pump_next.ensures.made
 
 pub returns-in-Some-clause-run : goal.returns-in-Some-clause-run
-returns-in-Some-clause-run g c = run_then _ _ _ _ _ _ _ _ c.in-Some.pumped c.pumps.invariant.pumped c.in-Some.ensures.run
+returns-in-Some-clause-run g c = run_then _ _ _ _ _ _ _ _ c.in-Some.ended c.pumps.invariant.pumped c.in-Some.ensures.run
 
 pub returns-in-Some-clause-more : goal.returns-in-Some-clause-more
 returns-in-Some-clause-more g c =
-    may_go_on c.args.pass.now c.pumps.pass c.pump_next.new.pass _ c.in-Some.pumped
+    may_go_on c.args.pass.now c.pumps.pass c.pump_next.new.pass _ c.in-Some.ended
     (omega (arith, c.pumps.invariant.counted))
     c.in-Some.ensures.more
 

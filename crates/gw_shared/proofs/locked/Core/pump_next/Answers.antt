@@ -15,11 +15,10 @@ returns-in-Some-clause-made g c =
     c.answer-number.new.pass batch c.add.new.self) (sym c.self.view_is)
     (made_one _ _ _ _ _ _ _ _ answer c.answer-number.ensures.step
     (c.add.ensures
-    ∙ (ap (λ (front : List ℕ). front ++ c.as_slice.result.now) c.number.ensures
     ∙ ap (λ (back : List ℕ). batch ++ back) (c.as_slice.ensures
-    ∙ sym (ap (λ (r : Result Reply StepFault). octets_given (answer.0, r)) c.in-Some.ensures)))))
+    ∙ sym (ap (λ (r : Result Reply StepFault). octets_given (answer.0, r)) c.in-Some.ensures))))
 
 pub returns-in-None-clause-made : goal.returns-in-None-clause-made
 returns-in-None-clause-made g c =
     made_one _ _ _ _ _ _ _ _ c.answer-number.result.0 c.answer-number.ensures.step
-    (c.number.ensures ∙ nothing_given _ c.answer-number.result.0 c.in-None.ensures)
+    (nothing_given _ c.answer-number.result.0 c.in-None.ensures)

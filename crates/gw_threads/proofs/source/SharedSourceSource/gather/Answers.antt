@@ -8,9 +8,9 @@ pub returns : goal.returns
 returns g c =
     let client = c.self.inside.client in
     let mine = c.self.inside.pass in
-    let after = c.pump-pumped.new.pass in
+    let after = c.pump-run.new.pass in
     subst (λ (w : Asking). IsGathered (GivesTo g.L.Course.setup) w (asking client after) c.args.batch.now
-    c.pump-pumped.new.batch c.gathered_by.result)
+    c.pump-run.new.batch c.gathered_by.result)
     c.self.view_is
-    (gathered-by g.L.Course.setup client mine after _ _ c.pump-pumped.result c.gathered_by.result c.gathered_by.ensures
-    c.pump-pumped.ensures.run)
+    (gathered-by g.L.Course.setup client mine after _ _ c.pump-run.result.ended c.gathered_by.result c.gathered_by.ensures
+    c.pump-run.ensures.run)
