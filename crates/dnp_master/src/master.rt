@@ -1,5 +1,5 @@
 //! The master towards one outstation.
-ghost use Rattle.std.specs.Prelude.{◌≡◌, is_some, IfOk, IfSome, IsOk, IsTrue, Some};
+ghost use Rattle.std.specs.Prelude.{◌≡◌, is_some, true, IfOk, IfSome, IsOk, IsTrue, Some};
 ghost use Rattle.dnp_app.specs.Operating.{request_intent};
 ghost use Rattle.dnp_app.specs.Requests.{octets_of};
 ghost use Rattle.dnp_master.specs.Master.{
@@ -320,8 +320,16 @@ impl Master {
         verdict
     }
 
-    /// A response was accepted at a moment.
-    fn accept(&mut self, response: &Response, moment: u64)
+    /// The same of a response that was judged, and is accepted.
+    pub fn accept(&mut self, response: &Response, moment: u64)
+        requires { accepts self.old response.now ≡ true }
+        ensures { self.new ≡ master_after_fragment moment response.now self.old }
+    {
+        self.change_with(response, moment);
+    }
+
+    /// What an accepted response changes.
+    fn change_with(&mut self, response: &Response, moment: u64)
         ensures { self.new ≡ master_after_accepted moment response.now self.old }
     {
         if response.is_unsolicited() {

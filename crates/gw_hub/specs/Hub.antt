@@ -6,6 +6,10 @@ use Rattle.gw_map.specs.Settings.{Setup, station_clocks}
 use Rattle.gw_model.specs.declared.observation.Observation.{Observation}
 use Rattle.gw_picture.specs.Picture.{news_of, news_of_report}
 use Rattle.dnp_app.specs.Response.{Fragment}
+use Rattle.dnp_master.specs.declared.verdict.Verdict.{Verdict}
+use Rattle.dnp_master.specs.declared.verdict.Verdict.TheVariants.{Ignored}
+use Rattle.dnp_master.specs.declared.verdict.Ignored.TheVariants.{NoRequest}
+use Rattle.dnp_master.specs.Fragments.{verdict_of}
 use Rattle.dnp_master.specs.Master.{Master}
 use Rattle.gw_control.specs.declared.answer.Outcome.{Outcome}
 use Rattle.iec_command.specs.declared.command.Command.{Command as AnyCommand}
@@ -23,6 +27,7 @@ use Rattle.gw_station.specs.Answers.{places, places_taken, CanBeTold}
 use Rattle.gw_station.specs.Client.{Client, is_started}
 use Rattle.gw_station.specs.Sound.{IsSoundClient}
 use Rattle.gw_steps.specs.declared.step.Step.{Step}
+use Rattle.gw_steps.specs.declared.step.Step.TheVariants as steps
 use Rattle.gw_steps.specs.declared.step.Reply.{Reply}
 use Rattle.gw_steps.specs.declared.step.StepFault.{StepFault}
 use Rattle.gw_steps.specs.Controls.{controls_after_taken, is_control_up, order_due, said_by, said_of_outcome}
@@ -92,6 +97,18 @@ state_with_response hub moment response =
       counts = raised hub.state.counts (step_with (news_among hub response.reports) 0);
       moment = latest hub.state moment;
     }
+
+-- ---- fragments
+
+-- what becomes of a fragment by the master towards its outstation; where there is none, nothing waits for it
+abbrev pub verdict_by : Fragment → Option Master → Verdict
+verdict_by f None = Ignored NoRequest
+verdict_by f (Some m) = verdict_of m f
+
+-- and of that of a step, if it is one
+abbrev pub verdict_in : State → Step → Verdict
+verdict_in s (steps.Fragment f moment) = verdict_by f (slice_get s.outstations f.outstation)
+verdict_in s _ = Ignored NoRequest
 
 -- ---- orders
 

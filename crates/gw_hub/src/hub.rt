@@ -8,7 +8,7 @@ ghost use Rattle.gw_steps.specs.declared.step.StepFault.TheVariants.{Spent};
 ghost use Rattle.gw_steps.specs.State.{at_first, first_after};
 ghost use Rattle.gw_model.specs.Places.{change};
 ghost use Rattle.gw_steps.specs.Controls.{order_due};
-ghost use Rattle.gw_steps.specs.Steps.{can_order, can_rise, client_up, command_of, is_beginning, is_ordering, latest, one_if, order_ended, reply_of_event};
+ghost use Rattle.gw_steps.specs.Steps.{can_order, can_rise, client_up, command_of, is_accepting, is_beginning, is_ordering, latest, one_if, order_ended, reply_of_event};
 ghost use Rattle.gw_steps.specs.Runs.{history, state_after, AtEach, IsRun};
 ghost use Rattle.gw_history.specs.Premises.{HasKnownRows, IsSoundRun, IsSoundSetup};
 ghost use Rattle.gw_laws.specs.Connections.{Connections};
@@ -21,18 +21,18 @@ ghost use Rattle.gw_told.specs.Tells.{Tells};
 ghost use Rattle.gw_orders.specs.Outcomes.{TellsDue};
 ghost use Rattle.gw_orders.specs.Commands.{AnswersCommands};
 ghost use Rattle.gw_orders.specs.Requests.{Requests};
-ghost use Rattle.gw_hub.specs.Hub.{can_count, can_take, controls_polled, state_counting, state_with_response, step_with, tally_of, Answers, IsCounted};
+ghost use Rattle.gw_hub.specs.Hub.{can_count, can_take, controls_polled, state_counting, state_with_response, step_with, tally_of, verdict_by, Answers, IsCounted};
 
 use crate::common::Common;
 use crate::news::{lose_rows, take_reports};
 use crate::orders::{Sender, end_order, lose_orders, pass_time, settle};
-use crate::parts::{CLIENTS, Parts};
+use crate::parts::Parts;
 use crate::tally::{Counts, Tally};
 use dnp_app::Response;
 use dnp_master::Verdict;
 use gw_control::Controls;
 use gw_map::{Control, Settings, Station};
-use gw_model::{Ended, Memory, Order};
+use gw_model::{CLIENTS, Ended, Memory, Order};
 use gw_parts::{Clients, Outstations};
 use gw_picture::Picture;
 use gw_station::Event;
@@ -318,7 +318,14 @@ impl Hub {
         Ok(Reply::Done)
     }
 
-    fn fragment(&mut self, response: &Response, moment: u64) -> Result<Reply, StepFault>
+    /// A response comes of which this becomes.
+    fn fragment(
+        &mut self,
+        response: &Response,
+        moment: u64,
+        verdict: Verdict,
+    ) -> Result<Reply, StepFault>
+        requires judged { verdict ≡ verdict_by response.now (slice_get self.old.state.outstations response.now.outstation) }
         ensures step { Answers self.old (steps.Fragment response.now moment) result self.new }
         ensures setup { self.new.setup ≡ self.old.setup }
     {
@@ -328,7 +335,6 @@ impl Hub {
         if !master.is_up() {
             return Err(StepFault::NotUp);
         }
-        let verdict = master.judge(response);
         if let Verdict::Accepted { control, .. } = verdict {
             self.accept(response, moment, control)?;
         } else {
@@ -344,7 +350,8 @@ impl Hub {
         moment: u64,
         ended: Option<Ended>,
     ) -> Result<(), StepFault>
-        requires { ended ≡ order_ended self.old.state response.now }
+        requires ended { ended ≡ order_ended self.old.state response.now }
+        requires accepts { is_accepting self.old.state response.now ≡ true }
         ensures ok { OnOk result ((can_take self.old response.now.reports ≡ true)
             × (self.new.state ≡ state_with_response self.old moment response.now)) }
         ensures err { IfErr result (λ fault. fault ≡ Spent) }
@@ -365,7 +372,7 @@ impl Hub {
         );
         // The contract of `rows` tells what every picture shows.
         let _shown = self.picture.rows();
-        self.outstations.take(response, moment);
+        self.outstations.accept(response, moment);
         let position = usize::from(response.outstation());
         end_order(&mut self.controls, &mut self.clients, position, ended);
         self.counts.raise(news, 0);

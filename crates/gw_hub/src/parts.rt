@@ -13,9 +13,6 @@ use gw_picture::Picture;
 use iec_window::Limits;
 use std::alloc::Global;
 
-/// How many clients there can be.
-pub const CLIENTS: u8 = 8;
-
 /// What of a hub takes memory, besides its settings.
 #[derive(Drop)]
 pub struct Parts {

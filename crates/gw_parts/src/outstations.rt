@@ -12,6 +12,7 @@ ghost use Rattle.gw_steps.specs.declared.effects.Fate.TheVariants.{Unanswered};
 ghost use Rattle.gw_control.specs.Controls.{order_at};
 ghost use Rattle.gw_steps.specs.Effects.{due_from, late, one_where, where_so, with_due};
 ghost use Rattle.gw_steps.specs.Queries.{is_poll_due_of};
+ghost use Rattle.gw_steps.specs.Steps.{accepted_by};
 ghost use Rattle.gw_parts.specs.Late.{late_at, with_late};
 ghost use Rattle.gw_parts.specs.Outstations.{master_polled, reply_to_poll};
 
@@ -113,12 +114,13 @@ impl Outstations {
         }
     }
 
-    /// A response of its outstation comes at a moment.
-    pub fn take(&mut self, response: &Response, moment: u64)
+    /// A response of its outstation comes at a moment, which is accepted there.
+    pub fn accept(&mut self, response: &Response, moment: u64)
+        requires { accepted_by response.now (slice_get self.old response.now.outstation) ≡ true }
         ensures { self.new ≡ change response.now.outstation (master_after_fragment moment response.now) self.old }
     {
         if let Some(master) = self.get_mut(response.outstation()) {
-            let _verdict = master.take(response, moment);
+            master.accept(response, moment);
         }
     }
 

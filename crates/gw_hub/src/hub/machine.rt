@@ -1,16 +1,38 @@
 //! The hub as the machine that others make steps on.
+ghost use Rattle.std.specs.Prelude.{◌≡◌};
+ghost use Rattle.gw_steps.specs.Sound.{IsSoundState};
+ghost use Rattle.gw_hub.specs.Hub.{verdict_in, Answers};
 
 use crate::hub::Hub;
 use crate::hub::queries::copy_rows;
 use crate::parts::{clients_over, field_over};
+use dnp_master::{Ignored, Verdict};
 use gw_control::Outgoing;
 use gw_model::{Memory, Observation};
 use gw_steps::{Effects, Machine, NewsPiece, Reply, Step, StepFault};
 
-impl Machine for Hub {
-    ghost seen = { λ hub. hub };
+impl Hub {
+    /// What becomes of the fragment of a step, if it is one; nothing does where there is no such outstation.
+    fn judge(&self, step: &Step) -> Verdict
+        ensures { result ≡ verdict_in self.now.state step.now }
+    {
+        match step {
+            Step::Fragment { response, .. } => match self.outstations.get(response.outstation()) {
+                Some(master) => master.judge(response),
+                None => Verdict::Ignored(Ignored::NoRequest),
+            },
+            _ => Verdict::Ignored(Ignored::NoRequest),
+        }
+    }
 
-    fn step(&mut self, step: &Step) -> Result<Reply, StepFault> {
+    /// Makes a step, of whose fragment this becomes, if it is one.
+    fn make_step(&mut self, step: &Step, verdict: Verdict) -> Result<Reply, StepFault>
+        requires judged { verdict ≡ verdict_in self.old.state step.now }
+        ensures step { Answers self.old step.now result self.new }
+        ensures setup { self.new.setup ≡ self.old.setup }
+        ensures was_sound { IsSoundState self.old.setup self.old.state }
+        ensures sound { IsSoundState self.new.setup self.new.state }
+    {
         // A function that reads a field may use in its proof what the type keeps: here, and behind the step.
         let _ = &self.clients;
         let reply = match step {
@@ -18,7 +40,7 @@ impl Machine for Hub {
             Step::OutstationDown { outstation, moment } => {
                 self.outstation_down(*outstation, *moment)
             }
-            Step::Fragment { response, moment } => self.fragment(response, *moment),
+            Step::Fragment { response, moment } => self.fragment(response, *moment, verdict),
             Step::Poll {
                 outstation,
                 moment,
@@ -37,14 +59,24 @@ impl Machine for Hub {
         let _ = &self.clients;
         reply
     }
+}
+
+impl Machine for Hub {
+    ghost seen = { λ hub. hub };
+
+    fn step(&mut self, step: &Step) -> Result<Reply, StepFault> {
+        let verdict = self.judge(step);
+        self.make_step(step, verdict)
+    }
 
     // What it will do is told from what the hub is before, and the rest from what it is behind it, so that the steps need know
     // nothing of it.
     fn step_telling(&mut self, step: &Step, effects: &mut Effects) -> Result<Reply, StepFault> {
         effects.clear();
-        self.tell(step, effects);
+        let verdict = self.judge(step);
+        self.tell(step, verdict, effects);
         let (news, waiting) = (self.counts.news(), self.waiting_for(step));
-        let reply = self.step(step);
+        let reply = self.make_step(step, verdict);
         self.tell_behind(step, &reply, news, waiting, effects);
         reply
     }

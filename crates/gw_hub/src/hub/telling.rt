@@ -4,7 +4,7 @@ ghost use Rattle.gw_control.specs.Controls.{refusal_of, CanAnswer};
 ghost use Rattle.gw_steps.specs.Controls.{answer_to, asked_by, order_due};
 ghost use Rattle.gw_steps.specs.Effects.{all_due, brings, clients_due, done_by, effects_of_apdu, effects_of_fragment, effects_of_tick, ending_of, ends_session, fate_by, is_accepted, lost, no_effects, one_where, outstations_due, task_answered, task_polled, told_unless_fault, waiting_for, with_due};
 ghost use Rattle.gw_steps.specs.Queries.{is_poll_due};
-ghost use Rattle.gw_hub.specs.Hub.{told_behind};
+ghost use Rattle.gw_hub.specs.Hub.{told_behind, verdict_by, verdict_in};
 ghost use Rattle.gw_steps.specs.Steps.{can_be_counted, can_order, command_of, is_ordering, needs};
 
 use crate::hub::Hub;
@@ -21,8 +21,9 @@ use iec_apci::{Apdu, Signal};
 use iec_command::Command;
 
 impl Hub {
-    /// What a step will do, if it is made without a fault.
-    pub(super) fn tell(&self, step: &Step, effects: &mut Effects)
+    /// What a step will do, if it is made without a fault; of its fragment this becomes, if it is one.
+    pub(super) fn tell(&self, step: &Step, verdict: Verdict, effects: &mut Effects)
+        requires judged { verdict ≡ verdict_in self.now.state step.now }
         requires nothing { effects.old.told ≡ no_effects }
         requires room { length self.now.setup.outstations ≤ effects.old.room }
         ensures told { can_be_counted self.now.state (needs self.now.setup self.now.state step.now) ≡ true
@@ -32,7 +33,7 @@ impl Hub {
     {
         match step {
             Step::OutstationDown { outstation, .. } => self.tell_loss(*outstation, effects),
-            Step::Fragment { response, .. } => self.tell_answer(response, effects),
+            Step::Fragment { response, .. } => self.tell_answer(response, verdict, effects),
             Step::Poll {
                 outstation,
                 moment,
@@ -174,8 +175,9 @@ impl Hub {
         );
     }
 
-    /// A response comes, with which an order may end.
-    fn tell_answer(&self, response: &Response, effects: &mut Effects)
+    /// A response comes, of which this becomes, and with which an order may end.
+    fn tell_answer(&self, response: &Response, verdict: Verdict, effects: &mut Effects)
+        requires judged { verdict ≡ verdict_by response.now (slice_get self.now.state.outstations response.now.outstation) }
         requires nothing { effects.old.told ≡ no_effects }
         requires room { length self.now.setup.outstations ≤ effects.old.room }
         ensures told { effects.new.told ≡ effects_of_fragment self.now.state response.now }
@@ -185,7 +187,7 @@ impl Hub {
         let Some(master) = self.outstations.get(outstation) else {
             return;
         };
-        let Verdict::Accepted { control, .. } = master.judge(response) else {
+        let Verdict::Accepted { control, .. } = verdict else {
             return;
         };
         effects.report(response, task_answered(master, response));

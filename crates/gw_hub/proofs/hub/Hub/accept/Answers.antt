@@ -40,7 +40,7 @@ invariant_of-self c =
       sound = sound_of _ _ c.rows-shown.ensures.sendable
           (subst (ShowsRows _) (sym c.take_reports-news.ensures.picture)
           (reports_rows (station_clocks c.get.result.now.station) _ _ c.reports-reports.result.now before.rows))
-          (ap length c.take.ensures ∙ (change-length _ _ _ ∙ before.masters)) orders;
+          (ap length c.accept.ensures ∙ (change-length _ _ _ ∙ before.masters)) orders;
       sessions = kept_outcomes (option_to_list (outcome_ended _ c.args.ended c.self.inside.controls)) _ _
           c.end_order.ensures.clients
           (all_mapped KeepsToSession KeepsToSession _ _ _ c.take_reports-news.ensures.clients (kept_with_news _)
