@@ -1,5 +1,5 @@
 -- What each step is to each client.
-use Rattle.std.proofs.Common.{◌≡◌, ℕ, zero, suc, ◌+◌, ◌*◌, ◌/◌, ◌%◌, ◌≤◌, Bool, true, false, cond, map, List, [], ◌∷◌, length, Option, Some, None, Result, Ok, Err, refl, sym, ap, subst, ◌∙◌, arith, inl, inr}
+use Rattle.std.proofs.Common.{◌≡◌, ℕ, ◌≤◌, Bool, true, false, cond, map, List, [], ◌∷◌, length, Option, Some, None, Result, Ok, Err, refl, sym, ap, subst, ◌∙◌, arith, inl, inr}
 use Rattle.std.specs.List.{AllByRecursion}
 use Rattle.std.specs.Prelude.{slice_get, option_map, IfSome}
 use Rattle.std.proofs.lemmas.Bool.{cases_Bool, cases_eq, ne_eqb, eq-eqb}
@@ -35,7 +35,7 @@ use Rattle.gw_steps.specs.declared.step.StepFault.{StepFault}
 use Rattle.gw_steps.specs.declared.step.StepFault.TheVariants.{NoClient, NoOutstation}
 use Rattle.gw_steps.specs.State.{State}
 use Rattle.gw_steps.specs.Controls.{client_told_all, clients_told, controls_with_ended, order_due}
-use Rattle.gw_steps.specs.Steps.{Allowed, outcome, needs, can_be_counted, reply_to, fault_of, client_reply, client_answered, client_after_frame, controls_closed, order_ended, outcomes_of_fragment, outcomes_of_loss, outcomes_of_tick, parts_after_loss, parts_after_poll, parts_after_tick, reply_of_event, reply_giving, is_accepting, one_if, bits_of, latest, after}
+use Rattle.gw_steps.specs.Steps.{Allowed, outcome, needs, can_be_counted, reply_to, fault_of, client_reply, client_answered, client_after_frame, controls_closed, order_ended, outcomes_of_fragment, outcomes_of_loss, outcomes_of_tick, parts_after_loss, parts_after_poll, parts_after_tick, reply_of_event, reply_giving, is_accepting, bits_of, latest, after}
 use Rattle.gw_steps.specs.Runs.{Entry, state_after}
 use Rattle.gw_steps.specs.Sound.{IsSoundState, LeavesSound}
 use Rattle.gw_steps.proofs.Inversion.{answered, who_is_up, who_is_down}
@@ -44,6 +44,7 @@ use Rattle.gw_steps.proofs.Saying.{said-content}
 use Rattle.gw_history.specs.Accepted.{is_accepted}
 use Rattle.gw_history.specs.Log.{log_of, news_after_log}
 use Rattle.gw_history.specs.Life.{Turn, Ends, bringing, nothing_new, has_bit, outcomes_for, outcomes_in, said_in, turn_taking, turn_of}
+use Rattle.gw_history.proofs.Bits.{t1_passed_at, t1_told}
 use Rattle.gw_history.proofs.Lives.{Becomes, Came, IsFresh, fresh_up}
 use Rattle.gw_history.proofs.Masters.{MasterIs, MasterTied, same_accepted}
 use Rattle.gw_history.proofs.Pictures.{news_same}
@@ -295,31 +296,6 @@ pump setup past c m r s sound e =
 
 -- ---- Tick
 
--- the bit of a client tells whether its t1 has passed
-pub bit_zero : (c : ℕ) → has_bit c 0 ≡ false
-bit_zero zero = refl
-bit_zero (suc c) = bit_zero c
-
-abbrev t1_passed_at : ℕ → Option Client → Bool
-t1_passed_at moment None = false
-t1_passed_at moment (Some k) = is_timed_out moment k
-
-bit_told : (moment : ℕ) (ks : List Client) (c : ℕ)
-    → has_bit c (bits_of (map (is_timed_out moment) ks)) ≡ t1_passed_at moment (slice_get ks c)
-bit_told moment [] c = bit_zero c
-bit_told moment (k ∷ ks) zero = lowest (is_timed_out moment k)
-  where
-    lowest : (b : Bool) → has_bit 0 (one_if b + 2 * bits_of (map (is_timed_out moment) ks)) ≡ b
-    lowest true = eq-eqb ((1 + 2 * bits_of (map (is_timed_out moment) ks)) % 2) 1 (omega arith)
-    lowest false = ne_eqb ((0 + 2 * bits_of (map (is_timed_out moment) ks)) % 2)
-        1 (λ (e : (0 + 2 * bits_of (map (is_timed_out moment) ks)) % 2 ≡ 1). omega (arith, e))
-bit_told moment (k ∷ ks) (suc c) = ap (has_bit c) (others (is_timed_out moment k)) ∙ bit_told moment ks c
-  where
-    others : (b : Bool)
-        → (one_if b + 2 * bits_of (map (is_timed_out moment) ks)) / 2 ≡ bits_of (map (is_timed_out moment) ks)
-    others true = omega arith
-    others false = omega arith
-
 tick_turn : (setup : Setup) (past : List Entry) (d m bits : ℕ) (closed : Bool) → has_bit d bits ≡ closed
     → turn_of setup d past (entry (steps.Tick m) (Ok (replies.Ticked bits)))
     ≡ Some (cond closed Ends (bringing [] (outcomes_for d (outcomes_in setup past (steps.Tick m)))))
@@ -359,7 +335,7 @@ tick_slot setup past m d (Some k) sound at =
     let bits : ℕ = bits_of (map (is_timed_out moment) s.clients) in
     let new : Client = client_told_all (outcomes_for d (outcomes_of_tick s moment)) (client_after_tick moment k) in
     let bit : has_bit d bits ≡ is_timed_out moment k =
-    bit_told moment s.clients d ∙ ap (t1_passed_at moment) at in (
+    t1_told moment s.clients d ∙ ap (t1_passed_at moment) at in (
       new,
       refl,
       subst (λ (t : Option Turn). Goes setup t k new) (sym (tick_turn setup past d m bits (is_timed_out moment k) bit))

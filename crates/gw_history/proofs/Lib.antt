@@ -5,6 +5,7 @@ pub mod Outstations
 pub mod Steps
 pub mod Lives
 pub mod Told
+pub mod Bits
 pub mod Clients
 pub mod Places
 pub mod Logged

@@ -1,7 +1,7 @@
 -- A tick closes where t1 has passed, and a pump gives what is due first.
-use Rattle.std.proofs.Common.{◌≡◌, ℕ, zero, suc, ◌+◌, ◌*◌, ◌/◌, ◌%◌, Bool, true, false, cond, List, [], ◌∷◌, map, length, Option, Some, None, Result, Ok, Err, refl, sym, ap, subst, ◌∙◌, arith}
+use Rattle.std.proofs.Common.{◌≡◌, ℕ, Bool, true, false, cond, List, [], ◌∷◌, length, Option, Some, None, Result, Ok, Err, refl, sym, ap, subst, ◌∙◌, arith}
 use Rattle.std.specs.Prelude.{◌&&◌, ◌||◌, is_some, nat_le, nat_lt, option_map, slice_get, IfSome}
-use Rattle.std.proofs.lemmas.Bool.{eq-eqb, lt-ltb, ne_eqb, true≢false}
+use Rattle.std.proofs.lemmas.Bool.{lt-ltb, true≢false}
 use Rattle.gw_model.specs.First.{when, first_of}
 use Rattle.gw_entries.specs.Setup.{StationSetup}
 use Rattle.gw_map.specs.Settings.{Setup, station_clocks}
@@ -21,18 +21,18 @@ use Rattle.gw_steps.specs.declared.step.Reply.{Reply}
 use Rattle.gw_steps.specs.declared.step.StepFault.{StepFault}
 use Rattle.gw_steps.specs.declared.step.StepFault.TheVariants.{NoClient}
 use Rattle.gw_steps.specs.State.{State, later}
-use Rattle.gw_steps.specs.Steps.{Allowed, bits_of, can_be_counted, client_reply, fault_of, latest, needs, one_if, outcome, reply_giving, reply_to}
+use Rattle.gw_steps.specs.Steps.{Allowed, can_be_counted, client_reply, fault_of, latest, needs, outcome, reply_giving, reply_to}
 use Rattle.gw_steps.specs.Runs.{Entry, state_after}
 use Rattle.gw_steps.proofs.Inversion.{answered, who_is_up}
 use Rattle.gw_steps.proofs.Saying.{said-content}
 use Rattle.gw_history.specs.Accepted.{moment_after}
-use Rattle.gw_history.specs.Life.{Turn, has_bit, life, session, turns_in}
+use Rattle.gw_history.specs.Life.{Turn, life, session, turns_in}
 use Rattle.gw_history.specs.Premises.{client_at, IsSoundSetup}
+use Rattle.gw_history.proofs.Bits.{t1_passed_at, t1_told}
 use Rattle.gw_history.proofs.Lives.{Lives}
 use Rattle.gw_history.proofs.Places.{Known, Place, SlotLives}
 use Rattle.gw_history.proofs.Tied.{told_moment}
 use Rattle.gw_history.proofs.Told.{sound_at}
-use Rattle.gw_history.proofs.Clients.{bit_zero}
 use Rattle.gw_laws.specs.Connection.{Connection, OfStanding, connection, is_so, turns}
 use Rattle.gw_laws.specs.Signals.{waiting}
 use Rattle.gw_laws.specs.Line.{line}
@@ -234,31 +234,10 @@ pump setup past c m r fit e known linked =
 
 -- ---- Tick
 
-abbrev late_at : ℕ → Option Client → Bool
-late_at now None = false
-late_at now (Some k) = is_timed_out now k
-
--- the bit of a client tells whether its t1 has passed
-bit_told : (now : ℕ) (ks : List Client) (c : ℕ)
-    → has_bit c (bits_of (map (is_timed_out now) ks)) ≡ late_at now (slice_get ks c)
-bit_told now [] c = bit_zero c
-bit_told now (k ∷ ks) zero = lowest (is_timed_out now k)
-  where
-    lowest : (b : Bool) → has_bit 0 (one_if b + 2 * bits_of (map (is_timed_out now) ks)) ≡ b
-    lowest true = eq-eqb ((1 + 2 * bits_of (map (is_timed_out now) ks)) % 2) 1 (omega arith)
-    lowest false = ne_eqb ((0 + 2 * bits_of (map (is_timed_out now) ks)) % 2)
-        1 (λ (e : (0 + 2 * bits_of (map (is_timed_out now) ks)) % 2 ≡ 1). omega (arith, e))
-bit_told now (k ∷ ks) (suc c) = ap (has_bit c) (others (is_timed_out now k)) ∙ bit_told now ks c
-  where
-    others : (b : Bool)
-        → (one_if b + 2 * bits_of (map (is_timed_out now) ks)) / 2 ≡ bits_of (map (is_timed_out now) ks)
-    others true = omega arith
-    others false = omega arith
-
 late_told : (setup : Setup) (past : List Entry) (c now : ℕ) (s : Option Client) → IsSoundSetup setup
     → IfSome s (λ k. k.window.limits ≡ limits_of setup.station)
     → SlotLives setup c (life setup c past) s → SlotLinked setup (connection setup c past) s
-    → late_at now s ≡ is_so (is_late setup.station now) (connection setup c past)
+    → t1_passed_at now s ≡ is_so (is_late setup.station now) (connection setup c past)
 late_told setup past c now None fit limits lives linked = ap (is_so (is_late setup.station now)) (sym linked)
 late_told setup past c now (Some k) fit limits lives linked =
     late_slot setup now (life setup c past) (connection setup c past) k fit limits (same_turns setup c past) lives
@@ -282,7 +261,7 @@ tick setup past m r fit e known linked =
     let now : ℕ = latest s m in
     let told = answered (fault_of s step) (can_be_counted s (needs setup s step)) (reply_to setup s step) r e in
     subst (ClosesLate setup (later (moment_after past) m) past) told.2
-    (λ c. bit_told now s.clients c
+    (λ c. t1_told now s.clients c
     ∙ (late_told setup past c now (client_at setup c past) fit
     (limits_at setup past c (client_at setup c past) known refl) (known.lives c) (linked c)
     ∙ ap (λ (n : ℕ). is_so (is_late setup.station n) (connection setup c past))

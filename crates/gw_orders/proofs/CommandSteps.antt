@@ -34,7 +34,7 @@ use Rattle.gw_steps.proofs.Inversion.{answered, who_is_down, who_is_up}
 use Rattle.gw_steps.proofs.Running.{entry}
 use Rattle.gw_history.specs.Accepted.{moment_after}
 use Rattle.gw_history.specs.Life.{has_bit}
-use Rattle.gw_orders.proofs.PendingCloses.{bit_told}
+use Rattle.gw_history.proofs.Bits.{bit_told}
 use Rattle.gw_orders.specs.Selections.{Selected, moment_at, selected, selected_with}
 use Rattle.gw_orders.proofs.Changed.{all_told, told_kept}
 use Rattle.gw_orders.proofs.Opened.{Leaves, end_leaves, none_current, none_kept, none_open, open_at, open_left, still_leaves, unless_none}

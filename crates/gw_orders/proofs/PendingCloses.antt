@@ -1,5 +1,5 @@
 -- Sessions that end, one or several in a tick.
-use Rattle.std.proofs.Common.{◌≡◌, ℕ, zero, suc, ◌+◌, ◌*◌, ◌/◌, ◌%◌, ◌<◌, Bool, true, false, ◌&&◌, ◌||◌, List, [], ◌∷◌, refl, sym, ap, ◌∙◌, arith}
+use Rattle.std.proofs.Common.{◌≡◌, ℕ, zero, suc, ◌+◌, ◌<◌, Bool, true, false, ◌&&◌, ◌||◌, List, [], ◌∷◌, refl, sym, ap, ◌∙◌, arith}
 use Rattle.std.specs.Prelude.{◌==◌, slice_get}
 use Rattle.std.proofs.lemmas.Bool.{eq-eqb, ne_eqb}
 use Rattle.gw_map.specs.Settings.{Setup}
@@ -9,9 +9,9 @@ use Rattle.gw_control.specs.Controls.{Controls, controls_after_end}
 use Rattle.gw_control.specs.Orders.{outgoing_after_end}
 use Rattle.gw_steps.specs.Controls.{controls_after_closes}
 use Rattle.gw_steps.specs.Runs.{Entry}
-use Rattle.gw_steps.specs.Steps.{bits_of, one_if}
+use Rattle.gw_steps.specs.Steps.{bits_of}
 use Rattle.gw_history.specs.Life.{has_bit}
-use Rattle.gw_history.proofs.Clients.{bit_zero}
+use Rattle.gw_history.proofs.Bits.{bit_at, bit_told}
 use Rattle.gw_orders.proofs.Ends.{tied_end}
 use Rattle.gw_orders.proofs.Story.{Tied, story}
 use Rattle.gw_orders.specs.Pending.{Pending, after_sessions}
@@ -50,11 +50,6 @@ rows_close setup past masters i (false ∷ bs) v o tied = rows_close setup past 
 
 -- ---- their bits
 
-abbrev pub bit_at : ℕ → List Bool → Bool
-bit_at c [] = false
-bit_at zero (b ∷ bs) = b
-bit_at (suc c) (b ∷ bs) = bit_at c bs
-
 closing_before : (bs : List Bool) (i c : ℕ) → c < i → closing i bs c ≡ false
 closing_before [] i c lt = refl
 closing_before (b ∷ bs) i c lt =
@@ -78,19 +73,6 @@ closing_at (b ∷ bs) i (suc j) c at =
     by : (b : Bool) → closing (suc i) bs c ≡ bit_at j bs → (b && false) || closing (suc i) bs c ≡ bit_at j bs
     by true rest = rest
     by false rest = rest
-
-lowest : (b : Bool) (n : ℕ) → has_bit 0 (one_if b + 2 * n) ≡ b
-lowest true n = eq-eqb ((1 + 2 * n) % 2) 1 (omega arith)
-lowest false n = ne_eqb ((0 + 2 * n) % 2) 1 (λ (e : (0 + 2 * n) % 2 ≡ 1). omega (arith, e))
-
-others : (b : Bool) (n : ℕ) → (one_if b + 2 * n) / 2 ≡ n
-others true n = omega arith
-others false n = omega arith
-
-pub bit_told : (bs : List Bool) (c : ℕ) → has_bit c (bits_of bs) ≡ bit_at c bs
-bit_told [] c = bit_zero c
-bit_told (b ∷ bs) zero = lowest b (bits_of bs)
-bit_told (b ∷ bs) (suc c) = ap (has_bit c) (others b (bits_of bs)) ∙ bit_told bs c
 
 -- a client is closed where its bit is set
 pub closing_bit : (bs : List Bool) (c : ℕ) → closing 0 bs c ≡ has_bit c (bits_of bs)

@@ -28,7 +28,7 @@ use Rattle.gw_station.specs.Pump.{client_after_pump, client_by_offer, offered}
 use Rattle.gw_steps.specs.Controls.{client_told_of, clients_told}
 use Rattle.gw_steps.specs.Steps.{client_after_frame, client_answered}
 use Rattle.gw_steps.specs.Queries.{started_at}
-use Rattle.gw_orders.proofs.PendingCloses.{bit_at}
+use Rattle.gw_history.proofs.Bits.{bit_at}
 use Rattle.gw_orders.proofs.Changed.{told_changed, told_kept}
 
 -- there is one, so its place is among them

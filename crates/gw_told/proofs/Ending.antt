@@ -1,5 +1,5 @@
 -- At each point of a run the last step told of the sessions that it ended.
-use Rattle.std.proofs.Common.{◌≡◌, ℕ, zero, suc, ◌+◌, ◌*◌, ◌/◌, ◌%◌, ◌<◌, Bool, true, false, cond, ◌&&◌, List, [], ◌∷◌, length, map, Option, Some, None, Result, Ok, Err, option_map, refl, sym, ap, subst, ◌∙◌, arith, inl, inr}
+use Rattle.std.proofs.Common.{◌≡◌, ℕ, zero, suc, ◌<◌, Bool, true, false, cond, ◌&&◌, List, [], ◌∷◌, length, map, Option, Some, None, Result, Ok, Err, option_map, refl, sym, ap, subst, ◌∙◌, arith, inl, inr}
 use Rattle.std.specs.Prelude.{◌==◌, replicate, slice_get}
 use Rattle.std.proofs.lemmas.Bool.{cases_eq, eq-eqb, eqb-true, ne_eqb}
 use Rattle.std.proofs.lemmas.List.{length-map}
@@ -26,13 +26,13 @@ use Rattle.gw_steps.specs.declared.step.StepFault.TheVariants.{NoClient}
 use Rattle.gw_steps.specs.Effects.{Effects, answered as answered_ends, dropped_of, effects_of, effects_of_apdu, effects_of_event, ending_of, ends_session as event_ends, is_so, judged, no_client, no_effects, only, or_offered, reported}
 use Rattle.gw_steps.specs.Queries.{dropped_at}
 use Rattle.gw_steps.specs.State.{State}
-use Rattle.gw_steps.specs.Steps.{Allowed, after, bits_of, can_be_counted, client_reply, fault_of, is_accepting, latest, needs, one_if, reply_of_event, reply_to}
+use Rattle.gw_steps.specs.Steps.{Allowed, after, bits_of, can_be_counted, client_reply, fault_of, is_accepting, latest, needs, reply_of_event, reply_to}
 use Rattle.gw_steps.specs.Runs.{AtEach, Entry, IsRun, state_after}
 use Rattle.gw_steps.proofs.Inversion.{answered, who_is_up}
 use Rattle.gw_steps.proofs.Running.{entry}
 use Rattle.gw_history.specs.Life.{has_bit}
 use Rattle.gw_history.specs.Premises.{IsSoundRun}
-use Rattle.gw_history.proofs.Clients.{bit_zero}
+use Rattle.gw_history.proofs.Bits.{bit_at, bit_told}
 use Rattle.gw_laws.proofs.Clients.{eight_clients}
 use Rattle.gw_orders.specs.Sessions.{ends_by, ends_session}
 use Rattle.gw_told.specs.Endings.{TellsEnds, TellsEndsBy, count_at}
@@ -148,36 +148,9 @@ framed setup s now moment c d apdu event k new at eight still = by (event_ends a
 
 -- ---- a tick
 
-abbrev is_closed_at : ℕ → Option Client → Bool
-is_closed_at moment None = false
-is_closed_at moment (Some k) = is_timed_out moment k
-
--- the bit of a client tells whether it is closed
-bit_told : (moment : ℕ) (ks : List Client) (c : ℕ)
-    → has_bit c (bits_of (map (is_timed_out moment) ks)) ≡ is_closed_at moment (slice_get ks c)
-bit_told moment [] c = bit_zero c
-bit_told moment (k ∷ ks) zero = lowest (is_timed_out moment k)
-  where
-    lowest : (b : Bool) → has_bit 0 (one_if b + 2 * bits_of (map (is_timed_out moment) ks)) ≡ b
-    lowest true = eq-eqb ((1 + 2 * bits_of (map (is_timed_out moment) ks)) % 2) 1 (omega arith)
-    lowest false = ne_eqb ((0 + 2 * bits_of (map (is_timed_out moment) ks)) % 2)
-        1 (λ (e : (0 + 2 * bits_of (map (is_timed_out moment) ks)) % 2 ≡ 1). omega (arith, e))
-bit_told moment (k ∷ ks) (suc c) = ap (has_bit c) (others (is_timed_out moment k)) ∙ bit_told moment ks c
-  where
-    others : (b : Bool)
-        → (one_if b + 2 * bits_of (map (is_timed_out moment) ks)) / 2 ≡ bits_of (map (is_timed_out moment) ks)
-    others true = omega arith
-    others false = omega arith
-
-closed_told : (moment c : ℕ) (ks : List Client)
-    → is_so (slice_get (map (is_timed_out moment) ks) c) ≡ is_closed_at moment (slice_get ks c)
-closed_told moment c [] = refl
-closed_told moment zero (k ∷ ks) = refl
-closed_told moment (suc c) (k ∷ ks) = closed_told moment c ks
-
 dropped_told : (moment c : ℕ) (ks : List Client)
     → count_at (slice_get (dropped_of (map (is_timed_out moment) ks) ks) c)
-    ≡ cond (is_closed_at moment (slice_get ks c)) (dropped_at (slice_get ks c)) 0
+    ≡ cond (bit_at c (map (is_timed_out moment) ks)) (dropped_at (slice_get ks c)) 0
 dropped_told moment c [] = refl
 dropped_told moment zero (k ∷ ks) = refl
 dropped_told moment (suc c) (k ∷ ks) = dropped_told moment c ks
@@ -187,12 +160,11 @@ ticked : (s : State) (now moment c : ℕ) (new : List Client) → length s.clien
     (slice_get (or_offered now (map (is_timed_out moment) s.clients) new) c)
     (slice_get (dropped_of (map (is_timed_out moment) s.clients) s.clients) c)
 ticked s now moment c new eight still =
-    let bit : has_bit c (bits_of (map (is_timed_out moment) s.clients)) ≡ is_closed_at moment (slice_get s.clients c) =
-    bit_told moment s.clients c in
+    let closed : List Bool = map (is_timed_out moment) s.clients in
+    let bit : has_bit c (bits_of closed) ≡ bit_at c closed = bit_told closed c in
     record {
-      due_is = λ is. or_so now c (map (is_timed_out moment) s.clients) new
-          (length-map s.clients (is_timed_out moment) ∙ (eight ∙ sym still))
-          (closed_told moment c s.clients ∙ (sym bit ∙ is));
+      due_is = λ is. or_so now c closed new (length-map s.clients (is_timed_out moment) ∙ (eight ∙ sym still))
+          (sym bit ∙ is);
       dropped_is =
           dropped_told moment c s.clients
           ∙ ap (λ (b : Bool). cond b (dropped_at (slice_get s.clients c)) 0) (sym bit);
