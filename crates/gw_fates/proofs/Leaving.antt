@@ -14,6 +14,7 @@ use Rattle.gw_steps.specs.declared.effects.Fate.TheVariants as fates
 use Rattle.gw_steps.specs.Controls.{controls_after_closes}
 use Rattle.gw_steps.specs.Effects.{ending_of, is_of_leaving, is_so, let_go, only, order_end}
 use Rattle.gw_steps.specs.State.{State, client_limit}
+use Rattle.gw_history.proofs.Bits.{closing, closing_at}
 use Rattle.gw_fates.specs.Fates.{Named, named_at, named_by}
 use Rattle.gw_fates.proofs.Counts.{all_so, times, waiting_so, way_at, way_of, way_so}
 use Rattle.gw_fates.proofs.Ended.{ends_append}
@@ -138,11 +139,6 @@ all_both : (p : Named → Bool) (c : ℕ) (more : ℕ → Bool) (i : ℕ) (qs : 
 all_both p c more i [] = refl
 all_both p c more i (q ∷ qs) = omega (arith, left_both p c more i q.waiting, all_both p c more (suc i) qs)
 
--- client c leaves, where these do, the first one has this number
-abbrev pub closing : ℕ → List Bool → ℕ → Bool
-closing i [] c = false
-closing i (b ∷ bs) c = (b && (c == i)) || closing (suc i) bs c
-
 closes : (p : Named → Bool) (i : ℕ) (bs : List Bool) (v : Controls)
     → all_so p 0 v.outgoing
     ≡ all_so p 0 (controls_after_closes i bs v).outgoing + all_left p (closing i bs) 0 v.outgoing
@@ -159,31 +155,6 @@ closes p i (true ∷ bs) v =
     omega (arith, session_ends p i 0 v.outgoing, both, rest)
 closes p i (false ∷ bs) v = closes p (suc i) bs v
 
--- whether a client leaves, by its place
-closing_before : (bs : List Bool) (i c : ℕ) → c < i → closing i bs c ≡ false
-closing_before [] i c lt = refl
-closing_before (b ∷ bs) i c lt =
-    rw (ne_eqb c i (λ is. omega (arith, lt, is)), closing_before bs (suc i) c (omega (arith, lt))) (by b)
-  where
-    by : (b : Bool) → (b && false) || false ≡ false
-    by true = refl
-    by false = refl
-
-closing_at : (bs : List Bool) (i j c : ℕ) → c ≡ j + i → closing i bs c ≡ told_leaving bs j
-closing_at [] i j c at = refl
-closing_at (b ∷ bs) i zero c at =
-    rw (eq-eqb c i (omega (arith, at)), closing_before bs (suc i) c (omega (arith, at))) (by b)
-  where
-    by : (b : Bool) → (b && true) || false ≡ b
-    by true = refl
-    by false = refl
-closing_at (b ∷ bs) i (suc j) c at =
-    rw (ne_eqb c i (λ is. omega (arith, at, is))) (by b (closing_at bs (suc i) j c (omega (arith, at))))
-  where
-    by : (b : Bool) → closing (suc i) bs c ≡ told_leaving bs j → (b && false) || closing (suc i) bs c ≡ told_leaving bs j
-    by true rest = rest
-    by false rest = rest
-
 pub sessions_end : (p : Named → Bool) (bs : List Bool) (v : Controls)
     → all_so p 0 v.outgoing
     ≡ all_so p 0 (controls_after_closes 0 bs v).outgoing + all_left p (told_leaving bs) 0 v.outgoing
@@ -191,7 +162,7 @@ sessions_end p bs v =
     omega (
       arith,
       closes p 0 bs v,
-      all_alike p (closing 0 bs) (told_leaving bs) 0 v.outgoing (λ c. closing_at bs 0 c c (omega arith)),
+      all_alike p (closing 0 bs) (told_leaving bs) 0 v.outgoing (closing_at bs),
     )
 
 -- what is under way stays

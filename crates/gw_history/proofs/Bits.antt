@@ -1,6 +1,6 @@
 -- The bits of a tick's reply: one for each client, set where its t1 has passed.
-use Rattle.std.proofs.Common.{◌≡◌, ℕ, zero, suc, ◌+◌, ◌*◌, ◌/◌, ◌%◌, Bool, true, false, List, [], ◌∷◌, map, Option, option_map, refl, ap, ◌∙◌, arith}
-use Rattle.std.specs.Prelude.{slice_get}
+use Rattle.std.proofs.Common.{◌≡◌, ℕ, zero, suc, ◌+◌, ◌*◌, ◌/◌, ◌%◌, ◌<◌, Bool, true, false, ◌&&◌, ◌||◌, List, [], ◌∷◌, map, Option, option_map, refl, sym, ap, ◌∙◌, arith}
+use Rattle.std.specs.Prelude.{◌==◌, slice_get}
 use Rattle.std.proofs.lemmas.Bool.{eq-eqb, ne_eqb}
 use Rattle.gw_picture.proofs.Lists.{map-get}
 use Rattle.gw_station.specs.Client.{Client, is_timed_out}
@@ -41,3 +41,41 @@ pub t1_told : (moment : ℕ) (ks : List Client) (c : ℕ)
     → has_bit c (bits_of (map (is_timed_out moment) ks)) ≡ t1_passed_at moment (slice_get ks c)
 t1_told moment ks c =
     bit_told (map (is_timed_out moment) ks) c ∙ ap is_so (map-get (is_timed_out moment) ks c)
+
+-- ---- one after another
+
+-- it is so of the one at place c, where the first of these has place i
+abbrev pub closing : ℕ → List Bool → ℕ → Bool
+closing i [] c = false
+closing i (b ∷ bs) c = (b && (c == i)) || closing (suc i) bs c
+
+closing_before : (bs : List Bool) (i c : ℕ) → c < i → closing i bs c ≡ false
+closing_before [] i c lt = refl
+closing_before (b ∷ bs) i c lt =
+    rw (ne_eqb c i (λ is. omega (arith, lt, is)), closing_before bs (suc i) c (omega (arith, lt))) (by b)
+  where
+    by : (b : Bool) → (b && false) || false ≡ false
+    by true = refl
+    by false = refl
+
+closing_from : (bs : List Bool) (i j c : ℕ) → c ≡ j + i → closing i bs c ≡ bit_at j bs
+closing_from [] i j c at = refl
+closing_from (b ∷ bs) i zero c at =
+    rw (eq-eqb c i (omega (arith, at)), closing_before bs (suc i) c (omega (arith, at))) (by b)
+  where
+    by : (b : Bool) → (b && true) || false ≡ b
+    by true = refl
+    by false = refl
+closing_from (b ∷ bs) i (suc j) c at =
+    rw (ne_eqb c i (λ is. omega (arith, at, is))) (by b (closing_from bs (suc i) j c (omega (arith, at))))
+  where
+    by : (b : Bool) → closing (suc i) bs c ≡ bit_at j bs → (b && false) || closing (suc i) bs c ≡ bit_at j bs
+    by true rest = rest
+    by false rest = rest
+
+pub closing_at : (bs : List Bool) (c : ℕ) → closing 0 bs c ≡ bit_at c bs
+closing_at bs c = closing_from bs 0 c c (omega arith)
+
+-- a client is closed where its bit is set
+pub closing_bit : (bs : List Bool) (c : ℕ) → closing 0 bs c ≡ has_bit c (bits_of bs)
+closing_bit bs c = closing_at bs c ∙ sym (bit_told bs c)

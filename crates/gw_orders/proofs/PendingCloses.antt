@@ -1,7 +1,6 @@
 -- Sessions that end, one or several in a tick.
-use Rattle.std.proofs.Common.{◌≡◌, ℕ, zero, suc, ◌+◌, ◌<◌, Bool, true, false, ◌&&◌, ◌||◌, List, [], ◌∷◌, refl, sym, ap, ◌∙◌, arith}
+use Rattle.std.proofs.Common.{◌≡◌, ℕ, suc, Bool, true, false, List, [], ◌∷◌, sym, ap, ◌∙◌}
 use Rattle.std.specs.Prelude.{◌==◌, slice_get}
-use Rattle.std.proofs.lemmas.Bool.{eq-eqb, ne_eqb}
 use Rattle.gw_map.specs.Settings.{Setup}
 use Rattle.gw_picture.proofs.Lists.{map-get}
 use Rattle.dnp_master.specs.Master.{Master}
@@ -11,7 +10,7 @@ use Rattle.gw_steps.specs.Controls.{controls_after_closes}
 use Rattle.gw_steps.specs.Runs.{Entry}
 use Rattle.gw_steps.specs.Steps.{bits_of}
 use Rattle.gw_history.specs.Life.{has_bit}
-use Rattle.gw_history.proofs.Bits.{bit_at, bit_told}
+use Rattle.gw_history.proofs.Bits.{closing, closing_bit}
 use Rattle.gw_orders.proofs.Ends.{tied_end}
 use Rattle.gw_orders.proofs.Story.{Tied, story}
 use Rattle.gw_orders.specs.Pending.{Pending, after_sessions}
@@ -31,11 +30,6 @@ rows_end setup past masters v c o tied =
 
 -- ---- several
 
--- client c is closed, where these are, the first one has this number
-abbrev pub closing : ℕ → List Bool → ℕ → Bool
-closing i [] c = false
-closing i (b ∷ bs) c = (b && (c == i)) || closing (suc i) bs c
-
 pub rows_close : (setup : Setup) (past : List Entry) (masters : List Master) (i : ℕ) (bs : List Bool) (v : Controls)
     (o : ℕ) → Tied (story setup past) masters v
     → rows (slice_get (controls_after_closes i bs v).outgoing o)
@@ -47,36 +41,6 @@ rows_close setup past masters i (true ∷ bs) v o tied =
     ∙ (ap (after_sessions (closing (suc i) bs) past) (rows_end setup past masters v i o tied)
     ∙ leave_both (λ d. d == i) (closing (suc i) bs) past ps)
 rows_close setup past masters i (false ∷ bs) v o tied = rows_close setup past masters (suc i) bs v o tied
-
--- ---- their bits
-
-closing_before : (bs : List Bool) (i c : ℕ) → c < i → closing i bs c ≡ false
-closing_before [] i c lt = refl
-closing_before (b ∷ bs) i c lt =
-    rw (ne_eqb c i (λ is. omega (arith, lt, is)), closing_before bs (suc i) c (omega (arith, lt))) (by b)
-  where
-    by : (b : Bool) → (b && false) || false ≡ false
-    by true = refl
-    by false = refl
-
-closing_at : (bs : List Bool) (i j c : ℕ) → c ≡ j + i → closing i bs c ≡ bit_at j bs
-closing_at [] i j c at = refl
-closing_at (b ∷ bs) i zero c at =
-    rw (eq-eqb c i (omega (arith, at)), closing_before bs (suc i) c (omega (arith, at))) (by b)
-  where
-    by : (b : Bool) → (b && true) || false ≡ b
-    by true = refl
-    by false = refl
-closing_at (b ∷ bs) i (suc j) c at =
-    rw (ne_eqb c i (λ is. omega (arith, at, is))) (by b (closing_at bs (suc i) j c (omega (arith, at))))
-  where
-    by : (b : Bool) → closing (suc i) bs c ≡ bit_at j bs → (b && false) || closing (suc i) bs c ≡ bit_at j bs
-    by true rest = rest
-    by false rest = rest
-
--- a client is closed where its bit is set
-pub closing_bit : (bs : List Bool) (c : ℕ) → closing 0 bs c ≡ has_bit c (bits_of bs)
-closing_bit bs c = closing_at bs 0 c c (omega arith) ∙ sym (bit_told bs c)
 
 -- what goes with the sessions that a tick ends
 pub rows_tick : (setup : Setup) (past : List Entry) (masters : List Master) (bs : List Bool) (v : Controls) (o : ℕ)

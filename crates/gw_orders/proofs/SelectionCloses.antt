@@ -7,7 +7,7 @@ use Rattle.gw_control.specs.Held.{controls_after_losses}
 use Rattle.gw_steps.specs.Controls.{controls_after_all_ended, controls_after_closes, controls_with_ended}
 use Rattle.gw_steps.specs.Steps.{bits_of}
 use Rattle.gw_history.specs.Life.{has_bit}
-use Rattle.gw_orders.proofs.PendingCloses.{closing, closing_bit}
+use Rattle.gw_history.proofs.Bits.{closing, closing_bit}
 use Rattle.gw_orders.proofs.Opened.{Leaves, both_leave, end_leaves, leaves_as, still_leaves}
 
 -- ---- clients that are closed
