@@ -1,6 +1,7 @@
 -- In each step: what was on its way, or is accepted, is told as ended or stays on its way.
-use Rattle.std.proofs.Common.{◌≡◌, ℕ, zero, suc, ◌+◌, ◌<◌, Bool, true, false, cond, List, [], ◌∷◌, length, map, Option, Some, None, Ok, refl, ap, arith}
+use Rattle.std.proofs.Common.{◌≡◌, ℕ, ◌+◌, ◌<◌, Bool, true, false, cond, length, map, Option, Some, None, Ok, refl, ap, arith}
 use Rattle.std.specs.Prelude.{option_and_then, slice_get}
+use Rattle.std.proofs.lemmas.Option.{slice_get_within}
 use Rattle.gw_model.specs.declared.control.Order.{Order}
 use Rattle.gw_map.specs.Settings.{Setup}
 use Rattle.iec_apci.specs.declared.apdu.Apdu.{Apdu}
@@ -28,14 +29,9 @@ use Rattle.gw_fates.proofs.Ordering.{framed, framed_next, numbered_with}
 
 -- ---- who is there
 
-place_of : {A : Type 0} (xs : List A) (n : ℕ) (x : A) → slice_get xs n ≡ Some x → n < length xs
-place_of [] n x at = absurd (let no : ⊥ = cc in no)
-place_of (y ∷ xs) zero x at = omega arith
-place_of (y ∷ xs) (suc n) x at = omega (arith, place_of xs n x at)
-
 there_is : (s : State) (c : ℕ) (k : Client) → length s.clients ≡ client_limit → slice_get s.clients c ≡ Some k
     → c < client_limit
-there_is s c k all at = omega (arith, place_of s.clients c k at, all)
+there_is s c k all at = omega (arith, slice_get_within s.clients c k at, all)
 
 -- ---- each step
 

@@ -1,6 +1,7 @@
 -- What an APDU of a client makes of the selections whose sessions stand.
 use Rattle.std.proofs.Common.{◌≡◌, ℕ, zero, suc, ◌+◌, ◌<◌, ◌≤◌, Bool, true, false, cond, not, List, [], ◌∷◌, length, Option, Some, None, option_map, refl, sym, ap, subst, ◌∙◌, arith}
 use Rattle.std.specs.Prelude.{◌==◌, ◌&&◌, slice_get, slice_index}
+use Rattle.std.proofs.lemmas.Option.{slice_get_within}
 use Rattle.gw_model.specs.Places.{change}
 use Rattle.gw_entries.specs.declared.control.Control.{Control}
 use Rattle.gw_map.specs.Settings.{Setup, control_at_from}
@@ -30,7 +31,7 @@ use Rattle.gw_orders.specs.Selections.{Selected, moment_at, selected_by, selecte
 use Rattle.gw_orders.proofs.Opened.{Fresh, Leaves, end_leaves, fresh_begun, fresh_left, open_at, open_left, still_leaves, unless_none, unless_same}
 use Rattle.gw_orders.proofs.Commanded.{commanded}
 use Rattle.gw_steps.specs.Queries.{started_at}
-use Rattle.gw_orders.proofs.Stages.{begun_stage, closed_begins, closed_stage, information_started, place_of, stage_changed, stage_stays, stage_there, stopped_stage, taken_begins, taken_stage}
+use Rattle.gw_orders.proofs.Stages.{begun_stage, closed_begins, closed_stage, information_started, stage_changed, stage_stays, stage_there, stopped_stage, taken_begins, taken_stage}
 
 -- ---- the sessions of all clients
 
@@ -74,7 +75,7 @@ beginning c f ks numbers count v k at stopped fresh = record {
   fresh = fresh_begun c (λ d. started_at (slice_get ks d)) (λ d. started_at (slice_get (change c f ks) d))
       (λ d. slice_index numbers d) (λ d. slice_index (change c (λ _. count + 1) numbers) d) count v
       (λ d ne. stage_there c f ks d ne) (λ d ne. index_there c d (count + 1) numbers ne)
-      (index_here c (count + 1) numbers (omega (arith, place_of c ks k at, fresh.few, fresh.each)))
+      (index_here c (count + 1) numbers (omega (arith, slice_get_within ks c k at, fresh.few, fresh.each)))
       (ap started_at at ∙ stopped) fresh.fresh;
 }
 
@@ -174,7 +175,8 @@ module _ (setup : Setup) (past : List Entry) (c m ns nr : ℕ) (asdu : Asdu) (s 
   for_found command None is at up sound fresh = (fresh, λ p. refl)
   for_found command (Some found) is at up sound fresh =
       let a : AskedCommand = asked_by setup s moment c command in
-      let here : c < length s.controls.sessions = omega (arith, place_of c s.clients k at, fresh.few, sound.sessions) in
+      let here : c < length s.controls.sessions =
+      omega (arith, slice_get_within s.clients c k at, fresh.few, sound.sessions) in
       let there : found.0 < length s.controls.selections =
       omega (arith, found_within setup command found is, sound.selections) in
       let all = commanded setup (λ d. started_at (slice_get s.clients d)) (λ d. slice_index s.sessions d)

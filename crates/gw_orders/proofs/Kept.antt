@@ -1,8 +1,9 @@
 -- What a step keeps of orders, at each outstation and of what is told.
-use Rattle.std.proofs.Common.{◌≡◌, ℕ, zero, suc, ◌<◌, List, [], ◌∷◌, length, map, Option, Some, None, Ok, sym, ap, subst, ◌∙◌, arith, inl, inr}
+use Rattle.std.proofs.Common.{◌≡◌, ℕ, ◌<◌, List, [], length, map, Option, Some, None, Ok, sym, ap, subst, ◌∙◌, arith, inl, inr}
 use Rattle.std.specs.Prelude.{slice_get}
 use Rattle.std.specs.Option.{option_to_list}
 use Rattle.std.proofs.lemmas.Bool.{cases_eq}
+use Rattle.std.proofs.lemmas.Option.{slice_get_within}
 use Rattle.gw_model.specs.declared.control.Ended.{Ended}
 use Rattle.gw_map.specs.Settings.{Setup}
 use Rattle.dnp_master.specs.Master.{Master}
@@ -82,14 +83,9 @@ one_tells setup past step r s new o within here there = record {
 
 -- ---- who is there
 
-has_place : {A : Type 0} (xs : List A) (o : ℕ) (x : A) → slice_get xs o ≡ Some x → o < length xs
-has_place [] o x at = absurd (let no : ⊥ = cc in no)
-has_place (y ∷ ys) zero x at = omega arith
-has_place (y ∷ ys) (suc o) x at = omega (arith, has_place ys o x at)
-
 pub within : (setup : Setup) (s : State) (o : ℕ) (x : Master) → IsSoundState setup s
     → slice_get s.outstations o ≡ Some x → o < length setup.outstations
-within setup s o x sound at = omega (arith, has_place s.outstations o x at, sound.masters)
+within setup s o x sound at = omega (arith, slice_get_within s.outstations o x at, sound.masters)
 
 pub few_wait : (count : ℕ) (q : Option Outgoing) → InOrderAt count q → HasFew places q
 few_wait count None k = omega arith

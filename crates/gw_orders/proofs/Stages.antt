@@ -1,5 +1,5 @@
 -- Which clients are started, as steps change them.
-use Rattle.std.proofs.Common.{◌≡◌, ℕ, zero, suc, ◌<◌, Bool, true, false, cond, not, ◌&&◌, List, [], ◌∷◌, drop, length, map, Option, Some, None, option_map, refl, sym, ap, subst, ◌∙◌, arith, inl, inr}
+use Rattle.std.proofs.Common.{◌≡◌, ℕ, zero, suc, Bool, true, false, cond, not, ◌&&◌, List, [], ◌∷◌, drop, length, map, Option, Some, None, option_map, refl, sym, ap, subst, ◌∙◌, inl, inr}
 use Rattle.std.specs.Prelude.{◌==◌, slice_get}
 use Rattle.std.proofs.lemmas.Bool.{cases_eq, eq-eqb, ne_eqb}
 use Rattle.gw_model.specs.First.{first_of, when}
@@ -30,12 +30,6 @@ use Rattle.gw_steps.specs.Steps.{client_after_frame, client_answered}
 use Rattle.gw_steps.specs.Queries.{started_at}
 use Rattle.gw_history.proofs.Bits.{bit_at}
 use Rattle.gw_orders.proofs.Changed.{told_changed, told_kept}
-
--- there is one, so its place is among them
-pub place_of : {A : Type 0} (n : ℕ) (xs : List A) (x : A) → slice_get xs n ≡ Some x → n < length xs
-place_of n [] x at = absurd (let none : ⊥ = cc in none)
-place_of zero (y ∷ xs) x at = omega arith
-place_of (suc n) (y ∷ xs) x at = omega (arith, place_of n xs x at)
 
 -- ---- one client
 

@@ -3,6 +3,7 @@ use Rattle.std.proofs.Common.{◌≡◌, ℕ, zero, suc, ◌<◌, Bool, true, fa
 use Rattle.std.specs.Prelude.{◌==◌, replicate, slice_get}
 use Rattle.std.proofs.lemmas.Bool.{cases_eq, eq-eqb, eqb-true, ne_eqb}
 use Rattle.std.proofs.lemmas.List.{length-map}
+use Rattle.std.proofs.lemmas.Option.{slice_get_within}
 use Rattle.gw_model.specs.Places.{change}
 use Rattle.gw_map.specs.Settings.{Setup}
 use Rattle.gw_picture.proofs.Lists.{change-here, change-length, change-there}
@@ -54,11 +55,6 @@ something_at x zero c lt = absurd (omega (arith, lt))
 something_at x (suc n) zero lt = refl
 something_at x (suc n) (suc c) lt = something_at x n c (omega (arith, lt))
 
-has_place : {A : Type 0} (xs : List A) (n : ℕ) (x : A) → slice_get xs n ≡ Some x → n < length xs
-has_place [] n x at = absurd (let no : ⊥ = cc in no)
-has_place (y ∷ ys) zero x at = omega arith
-has_place (y ∷ ys) (suc n) x at = omega (arith, has_place ys n x at)
-
 none_ends : (k : Option Client) (due : Option Bool) (c : ℕ) → Tells false k due (slice_get no_effects.dropped c)
 none_ends k due c = record { due_is = λ is. absurd (let no : ⊥ = cc in no); dropped_is = nothing_at 8 c }
 
@@ -89,7 +85,7 @@ one_ends moment c d k ks new at eight still = elim (cases_eq d c) [
 ]
   where
     within : d < 8
-    within = let few : d < length ks = has_place ks d k at in omega (arith, few, eight)
+    within = let few : d < length ks = slice_get_within ks d k at in omega (arith, few, eight)
 
     own : Tells (d == d) (slice_get ks d) (slice_get (or_offered moment (only d) new) d)
         (slice_get (change d (λ _. dropped_at (slice_get ks d)) no_effects.dropped) d)
