@@ -5,7 +5,7 @@ use Rattle.std.specs.Option.{option_to_list}
 use Rattle.std.specs.Prelude.{slice_get, option_map, IfSome}
 use Rattle.std.proofs.Common.{◌≡◌, ℕ, zero, suc, ◌+◌, ◌≤◌, ◌*◌, Bool, true, false, cond, eqb, map, List, [], ◌∷◌, ◌++◌, length, Option, Some, None, refl, sym, ap, subst, ◌∙◌, arith, inl, inr}
 use Rattle.std.proofs.lemmas.Bool.{cases_eq, ne_eqb, eq-eqb}
-use Rattle.std.proofs.lemmas.List.{length-append}
+use Rattle.std.proofs.lemmas.List.{length-append, nil_from_length}
 use Rattle.std.proofs.lemmas.List.Elements.{filter-append}
 use Rattle.gw_model.specs.Places.{change}
 use Rattle.gw_model.specs.declared.control.Ended.{Ended}
@@ -186,10 +186,6 @@ no_orders setup s d k sound at stopped =
     subst (λ (x : Option Client). IfSome x (λ y. y.held ≡ 2 * orders_of d s.controls)) at (sound.held d) in
     omega (arith, held, mine.stopped stopped)
 
-none_of : (xs : List Outcome) → length xs ≡ 0 → xs ≡ []
-none_of [] e = refl
-none_of (x ∷ xs) e = absurd (omega (arith, e))
-
 operating_own : (d : ℕ) (xs : List Outcome) → AllByRecursion IsOperating xs
     → AllByRecursion IsOperating (outcomes_for d xs)
 operating_own d [] all = tt
@@ -208,7 +204,7 @@ pub came_told : (setup : Setup) (s : State) (d : ℕ) (k : Client) (v new : Cont
     (client_told_all (outcomes_for d xs) (client_with_news news k))
 came_told setup s d k v new news xs sound at few told = record {
   becomes = refl;
-  stopped = λ stopped. none_of (outcomes_for d xs)
+  stopped = λ stopped. nil_from_length (outcomes_for d xs)
       (omega (arith, told.ends, few, no_orders setup s d k sound at stopped));
   operating = operating_own d xs told.operating;
 }
@@ -238,7 +234,7 @@ closed_told setup s moment d k sound at passed =
     let closed : slice_get (map (is_timed_out moment) s.clients) d ≡ Some true =
     map-get (is_timed_out moment) s.clients d ∙ (ap (option_map (is_timed_out moment)) at
     ∙ ap (λ (b : Bool). Some b) passed) in
-    none_of (outcomes_for d (outcomes_of_tick s moment))
+    nil_from_length (outcomes_for d (outcomes_of_tick s moment))
     (omega (
       arith,
       (tick_told setup s moment d sound).ends,

@@ -1,7 +1,7 @@
 -- Why a step isn't made.
 use Rattle.std.proofs.Common.{◌≡◌, ℕ, ◌+◌, ◌^◌, ◌<◌, Bool, true, false, ltb, List, [], ◌∷◌, ◌++◌, length, Option, Some, None, Result, Ok, Err, refl, sym, ap, subst, ◌∙◌, arith, inl, inr}
 use Rattle.std.specs.Prelude.{◌&&◌, ◌||◌, not, is_some, nat_le, nat_lt, option_map, IsTrue}
-use Rattle.std.proofs.lemmas.Bool.{cases_Bool, le-leb, le-ltb, lt-leb, lt-ltb, ltb-false, ltb-true}
+use Rattle.std.proofs.lemmas.Bool.{and_parts, cases_Bool, le-leb, le-ltb, lt-leb, lt-ltb, ltb-false, ltb-true}
 use Rattle.gw_model.specs.First.{when, first_of}
 use Rattle.gw_map.specs.Settings.{Setup}
 use Rattle.gw_picture.proofs.Lists.{get_past}
@@ -119,10 +119,6 @@ pub record CountsTold (setup : Setup) (past : List Entry) (s : State) : Type 0 w
   pub orders : s.controls.ordered ≡ count orders_added setup past
   pub few : s.controls.ordered < 2 ^ 64
 
-both_true : (a b : Bool) → a && b ≡ true → b ≡ true
-both_true true b e = e
-both_true false b e = absurd cc
-
 few_more : (order : Bool) (v : Controls) → can_order order v ≡ true → v.ordered < 2 ^ 64
     → v.ordered + one_if order < 2 ^ 64
 few_more true v can few = ltb-true (v.ordered + 1) (2 ^ 64) can
@@ -141,8 +137,8 @@ counted setup past step can told r so_far =
       sessions = omega (arith, so_far.sessions, told.sessions);
       orders = omega (arith, more, so_far.orders, told.orders);
       few = subst (λ (n : ℕ). n < 2 ^ 64) (sym more)
-          (few_more (needs setup s step).order s.controls (both_true (can_rise s.counts (needs setup s step).counts)
-          (can_order (needs setup s step).order s.controls) can) so_far.few);
+          (few_more (needs setup s step).order s.controls (and_parts (can_rise s.counts (needs setup s step).counts)
+          (can_order (needs setup s step).order s.controls) can).1 so_far.few);
     }
 
 pub counts_told : (setup : Setup) (past : List Entry) → AtEach (Place setup) past

@@ -5,7 +5,7 @@ use Rattle.std.specs.List.{AllByRecursion}
 use Rattle.std.specs.Option.{option_to_list}
 use Rattle.std.proofs.lemmas.Bool.{cases_Bool, true≢false, and_parts, lt-ltb}
 use Rattle.std.proofs.lemmas.List.{map-append}
-use Rattle.std.proofs.lemmas.Option.{same_Some}
+use Rattle.std.proofs.lemmas.Option.{none-some, same_Some}
 use Rattle.gw_model.specs.First.{when}
 use Rattle.gw_model.specs.declared.observation.Observation.{Observation}
 use Rattle.gw_model.specs.Clocks.{Clocks}
@@ -274,10 +274,6 @@ mirrored setup log new t hs keeps tied (n ∷ newer) older act asked same is =
 
 -- ---- turns
 
--- no act asks nothing
-none_asked : (asked : List ℕ) → None ≡ Some asked → ⊥
-none_asked asked e = cc
-
 -- the addresses of an act
 act_asks : (acts : Bool) (addresses asked : List ℕ) → when acts addresses ≡ Some asked
     → (acts ≡ true) × (addresses ≡ asked)
@@ -313,8 +309,8 @@ asdu_keeps setup log said ns nr asdu hs k single lined =
 
     begins : (j : Judged) (asked : List ℕ) → asked_by setup (is_pending v.asked) j ≡ Some asked
         → IsKept setup.rows asked (next j) (length v.elements) None
-    begins Malformed asked act = absurd (none_asked asked act)
-    begins (Refuse cause execute) asked act = absurd (none_asked asked act)
+    begins Malformed asked act = absurd (none-some asked act)
+    begins (Refuse cause execute) asked act = absurd (none-some asked act)
     begins (Accepted command) asked act =
         let are = act_asks (is_accepted_act (is_pending v.asked) command && is_station_interrogation command.action)
         (asked_addresses setup command.common_address) asked act in
@@ -349,7 +345,7 @@ asdu_keeps setup log said ns nr asdu hs k single lined =
 same_view : (setup : Setup) (log : List Observation) (taking : Taking) (signal : Signal) (hs : List Turn)
     → Keeps setup log log (Takes (U signal) taking) hs
 same_view setup log taking signal hs = record {
-  begins = λ asked act. absurd (none_asked asked act);
+  begins = λ asked act. absurd (none-some asked act);
   goes = λ asked since newer kept. kept;
 }
 
@@ -365,7 +361,7 @@ takes setup log taking (I ns nr asdu) (Some hs) k single shown lined tied =
 takes setup log taking (S nr) None k single shown lined tied = tt
 takes setup log taking (S nr) (Some hs) k single shown lined tied =
     mirrored setup log log (Takes (S nr) taking) hs (record
-    { begins = λ asked act. absurd (none_asked asked act); goes = λ asked since newer kept. kept }) tied
+    { begins = λ asked act. absurd (none-some asked act); goes = λ asked since newer kept. kept }) tied
 takes setup log taking (U signals.StartAct) None k single shown lined tied =
     λ newer older act asked same is. absurd (never newer act older same)
   where
@@ -394,7 +390,7 @@ numbered : (setup : Setup) (log : List Observation) (ns nr : ℕ) (meant : Meant
     (put_out meant (spontaneous_of meant) (view setup log hs)) meant
     → Keeps setup log log (PutsOut (IFormat ns nr meant)) hs
 numbered setup log ns nr meant hs puts = record {
-  begins = λ asked act. absurd (none_asked asked act);
+  begins = λ asked act. absurd (none-some asked act);
   goes = λ asked since newer kept.
       kept_put_out setup.rows asked (station_clocks setup.station) since (told newer) meant
       (spontaneous_of meant) (view setup log hs) puts kept;
@@ -411,13 +407,13 @@ puts : (setup : Setup) (log : List Observation) (moment : ℕ) (x : Sending) (s 
 puts setup log moment x None k is can all news lined news_then then tied = tt
 puts setup log moment (sendings.Confirm signal) (Some hs) k is can all news lined news_then then tied =
     mirrored setup log log (PutsOut (says setup k (sendings.Confirm signal))) hs
-    (record { begins = λ asked act. absurd (none_asked asked act); goes = λ asked since newer kept. kept }) tied
+    (record { begins = λ asked act. absurd (none-some asked act); goes = λ asked since newer kept. kept }) tied
 puts setup log moment sendings.Test (Some hs) k is can all news lined news_then then tied =
     mirrored setup log log (PutsOut (says setup k sendings.Test)) hs
-    (record { begins = λ asked act. absurd (none_asked asked act); goes = λ asked since newer kept. kept }) tied
+    (record { begins = λ asked act. absurd (none-some asked act); goes = λ asked since newer kept. kept }) tied
 puts setup log moment sendings.SFormat (Some hs) k is can all news lined news_then then tied =
     mirrored setup log log (PutsOut (says setup k sendings.SFormat)) hs
-    (record { begins = λ asked act. absurd (none_asked asked act); goes = λ asked since newer kept. kept }) tied
+    (record { begins = λ asked act. absurd (none-some asked act); goes = λ asked since newer kept. kept }) tied
 puts setup log moment (sendings.Answer answer) (Some hs) k is can all news lined news_then then tied =
     let x : Sending = sendings.Answer answer in
     let t : Turn = PutsOut (says setup k x) in
@@ -444,7 +440,7 @@ comes : (setup : Setup) (before : List Observation) (brought : Brought) (s : Opt
 comes setup before brought None k lined tied = tt
 comes setup before brought (Some hs) k lined tied =
     mirrored setup before (before ++ brought.news) (Idle brought) hs (record {
-      begins = λ asked act. absurd (none_asked asked act);
+      begins = λ asked act. absurd (none-some asked act);
       goes = λ asked since newer kept.
           kept_taken setup.rows asked since (told newer) (told_outcomes brought.outcomes)
           (news_came setup.station.queue brought.news (view setup before hs))

@@ -1,7 +1,7 @@
 -- Fates: elements that are settled, put out or dropped, and then those queued.
 use Rattle.std.proofs.Common.{◌≡◌, ℕ, zero, suc, ◌+◌, ◌-◌, ◌≤◌, ◌<◌, Bool, false, List, [], ◌∷◌, ◌++◌, map, length, take, drop, refl, sym, ap, ◌∙◌, append_assoc, arith, inl, inr}
 use Rattle.std.proofs.lemmas.Bool.{cases_Bool}
-use Rattle.std.proofs.lemmas.List.{append-nil, length-append, length-drop, length-take-le}
+use Rattle.std.proofs.lemmas.List.{append-nil, length-append, length-drop, length-take-le, map-append}
 use Rattle.circular_buffer.specs.Buffer.{keep_last}
 use Rattle.gw_model.specs.declared.observation.Observation.{Observation}
 use Rattle.gw_station.proofs.Queues.{drop-front, kept_on, kept_all}
@@ -24,10 +24,6 @@ AreSettled (e ∷ es) = (is_queued e.fate ≡ false) × AreSettled es
 -- settled ones, and then a queue
 abbrev pub before_queue : List Element → List Observation → List Element
 before_queue settled queue = settled ++ map queued queue
-
-map-append : {A B : Type 0} (f : A → B) (xs ys : List A) → map f (xs ++ ys) ≡ map f xs ++ map f ys
-map-append f [] ys = refl
-map-append f (x ∷ xs) ys = ap (λ (zs : List _). f x ∷ zs) (map-append f xs ys)
 
 -- the oldest of the queue is put out
 use_up-settled : (settled : List Element) (x : Observation) (rest : List Element) → AreSettled settled

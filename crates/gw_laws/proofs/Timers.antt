@@ -2,7 +2,7 @@
 use Rattle.std.proofs.Common.{◌≡◌, ℕ, ◌+◌, ◌-◌, ◌<◌, ◌≤◌, Bool, true, List, [], ◌∷◌, ◌++◌, drop, map, length, Option, Some, None, refl, sym, ap, subst, ◌∙◌, arith}
 use Rattle.std.specs.Prelude.{◌&&◌, is_none, slice_get, IfSome}
 use Rattle.std.specs.List.{AllByRecursion}
-use Rattle.std.proofs.lemmas.List.{length-append, drop-append-le, drop-drop}
+use Rattle.std.proofs.lemmas.List.{drop-append-le, drop-drop, length_push}
 use Rattle.gw_map.specs.Settings.{Setup, station_clocks}
 use Rattle.iec_apci.specs.declared.apdu.Apdu.{Apdu}
 use Rattle.iec_apci.specs.declared.apdu.Apdu.TheVariants.{I, S, U}
@@ -47,9 +47,6 @@ TimersTied began ts k =
 
 -- ---- lists
 
-one_longer : (xs : List ℕ) (x : ℕ) → length (xs ++ x ∷ []) ≡ length xs + 1
-one_longer xs x = length-append xs (x ∷ [])
-
 -- the oldest stays the oldest
 first_stays : (xs : List ℕ) (x : ℕ) → Some (first_of (slice_get xs 0) x) ≡ slice_get (xs ++ x ∷ []) 0
 first_stays [] x = refl
@@ -60,7 +57,7 @@ sent_length [] = refl
 sent_length (At moment (Idle brought) ∷ ts) = sent_length ts
 sent_length (At moment (Takes a taking) ∷ ts) = sent_length ts
 sent_length (At moment (PutsOut (IFormat ns nr meant)) ∷ ts) =
-    one_longer (sent_at ts) moment ∙ ap (λ (n : ℕ). n + 1) (sent_length ts)
+    length_push (sent_at ts) moment ∙ ap (λ (n : ℕ). n + 1) (sent_length ts)
 sent_length (At moment (PutsOut (SFormat nr)) ∷ ts) = sent_length ts
 sent_length (At moment (PutsOut (UFormat signal)) ∷ ts) = sent_length ts
 sent_length (At moment Ends ∷ ts) = sent_length ts
@@ -105,7 +102,7 @@ took setup began moment (I ns nr asdu) taking ts k new small tied same takes so_
     (rw (told.send, told.receive) (record {
       waiting = left_beyond nr (acknowledged (map turn_in ts)) ts w so_far.waiting same
           (right_leaves setup nr (map turn_in ts) w small tied told.receive);
-      owed = ap (λ (n : ℕ). n + 1) so_far.owed ∙ sym (one_longer (unreceipted ts) moment);
+      owed = ap (λ (n : ℕ). n + 1) so_far.owed ∙ sym (length_push (unreceipted ts) moment);
       since = ap (λ (x : Option ℕ). Some (first_of x moment)) so_far.since ∙ first_stays (unreceipted ts) moment;
       heard = refl;
       test = so_far.test;

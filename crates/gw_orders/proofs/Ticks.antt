@@ -4,6 +4,7 @@ use Rattle.std.proofs.Math.Bool.{and-false}
 use Rattle.std.specs.Prelude.{option_and_then, slice_get}
 use Rattle.std.specs.List.{AllByRecursion}
 use Rattle.std.proofs.lemmas.List.{length-map}
+use Rattle.std.proofs.lemmas.Bool.{and_parts}
 use Rattle.gw_model.specs.declared.control.Ended.{Ended}
 use Rattle.gw_model.specs.declared.control.Order.{Order}
 use Rattle.gw_map.specs.Settings.{Setup}
@@ -41,10 +42,6 @@ use Rattle.gw_orders.proofs.Overs.{EndsWay, SaysDone, names_way}
 use Rattle.gw_orders.proofs.PendingPlaces.{At, at_over, ended_due}
 use Rattle.gw_orders.proofs.Shapes.{all_unmarked}
 use Rattle.gw_orders.proofs.Kept.{StepFollows, Before, due_here, TellingAt}
-
-and_right : (a b : Bool) → a && b ≡ true → b ≡ true
-and_right true b e = e
-and_right false b e = absurd (let no : ⊥ = cc in no)
 
 not_awaiting : (past : List Entry) (late : Bool) (xs : List Accepted)
     → AllByRecursion (λ x. marks x.order.number past ≡ []) xs
@@ -133,8 +130,8 @@ tick_at setup past m s p k =
     (rows_tick setup past s.outstations bs s.controls p k.orders) refl over
     (says_late (en ∷ past) e q (tick_fails moment (slice_get s.outstations p))
     (λ u at named. undone (marks u.accepted.order.number past)
-    (and_right (is_late_at setup p past (later (moment_after past) m)) (awaits (marks u.accepted.order.number past))
-    (ends u at ∙ named)))))
+    (and_parts (is_late_at setup p past (later (moment_after past) m)) (awaits (marks u.accepted.order.number past))
+    (ends u at ∙ named)).1)))
 
 pub tick : (setup : Setup) (past : List Entry) (m : ℕ) (r : Reply) (s : State)
     → outcome setup s (steps.Tick m) ≡ Ok r → Before setup past s

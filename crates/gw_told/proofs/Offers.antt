@@ -1,7 +1,7 @@
 -- A step tells of each client for which it brings something to be put out.
 use Rattle.std.proofs.Common.{◌≡◌, ℕ, Bool, true, false, cond, not, ◌&&◌, List, length, Option, Some, None, option_map, refl, sym, ap, ◌∙◌, inl, inr}
 use Rattle.std.specs.Prelude.{is_some, slice_get}
-use Rattle.std.proofs.lemmas.Bool.{cases_eq}
+use Rattle.std.proofs.lemmas.Bool.{and_parts, cases_eq}
 use Rattle.std.proofs.lemmas.List.{length-map}
 use Rattle.gw_model.specs.Clocks.{Clocks}
 use Rattle.gw_model.specs.Places.{change}
@@ -129,10 +129,6 @@ sent_up clocks moment (sendings.News x) k = refl
 sent_up clocks moment (sendings.Part part) k = refl
 sent_up clocks moment sendings.SFormat k = refl
 
-and_left : (a b : Bool) → a && b ≡ true → a ≡ true
-and_left true b is = refl
-and_left false b is = absurd (let no : ⊥ = cc in no)
-
 -- there is an offer after a pump only if there was one before
 pumped : (clocks : Clocks) (moment : ℕ) (k : Client) → offers_at moment (client_after_pump clocks moment k) ≡ true
     → offers_at moment k ≡ true
@@ -144,8 +140,8 @@ pumped clocks moment k is = by (offered moment k) refl is
     by (Some x) first offers =
         let up : is_up k.stage ≡ true =
         sym (sent_up clocks moment x k)
-        ∙ and_left (is_up (client_with_sent clocks moment x k).stage)
-        (is_some (offered moment (client_with_sent clocks moment x k))) offers in
+        ∙ (and_parts (is_up (client_with_sent clocks moment x k).stage)
+        (is_some (offered moment (client_with_sent clocks moment x k))) offers).0 in
         ap (λ (b : Bool). b && is_some (offered moment k)) up ∙ ap (λ (y : Option Sending). is_some y) first
 
 pumped_at : (clocks : Clocks) (moment : ℕ) (k : Option Client)
