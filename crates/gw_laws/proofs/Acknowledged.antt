@@ -1,5 +1,5 @@
 -- What ties the I formats that a client has acknowledged to its turns.
-use Rattle.std.proofs.Common.{◌≡◌, ℕ, ◌+◌, ◌-◌, ◌%◌, ◌<◌, ◌≤◌, true, leb, ltb, List, ◌∷◌, map, length, refl, sym, ap, ◌∙◌, arith, inl, inr}
+use Rattle.std.proofs.Common.{◌≡◌, ℕ, ◌+◌, ◌-◌, ◌<◌, ◌≤◌, true, leb, ltb, List, ◌∷◌, map, length, refl, sym, ap, ◌∙◌, arith, inl, inr}
 use Rattle.std.proofs.lemmas.Bool.{cases_Bool, le-leb, leb-true, ltb-true, true≢false}
 use Rattle.gw_model.specs.Clocks.{Clocks}
 use Rattle.gw_map.specs.Settings.{Setup, station_clocks}
@@ -10,6 +10,7 @@ use Rattle.iec_apci.specs.declared.apdu.Signal.TheVariants.{StartAct, StartCon, 
 use Rattle.iec_window.specs.Counts.{WindowCounts}
 use Rattle.iec_window.specs.Sequence.{new_acknowledgements, is_right_receive}
 use Rattle.iec_window.proofs.Right.{right_split}
+use Rattle.iec_window.proofs.Numbers.{ahead_leaves, ahead_within, within_ahead}
 use Rattle.gw_station.specs.declared.sending.Sending.{Sending}
 use Rattle.gw_station.specs.declared.sending.Sending.TheVariants as sendings
 use Rattle.gw_station.specs.Client.{Client}
@@ -24,19 +25,6 @@ use Rattle.gw_laws.specs.Connection.{At, TimedTurn, turn_in}
 use Rattle.gw_laws.proofs.Links.{BecomesAt, Linked, TakesAt, linked_all}
 
 -- ---- N(R)
-
--- of a count a, and as many more: a number that is no further ahead leaves all but those beyond it
-ahead_leaves : (nr a n : ℕ) → nr < 32768 → n < 32768 → (nr + 32768 - a % 32768) % 32768 ≤ n
-    → a + (nr + 32768 - a % 32768) % 32768 ≡ a + n - (a + n + 32768 - nr) % 32768
-ahead_leaves nr a n small few within = omega arith
-
-ahead_within : (nr a n : ℕ) → nr < 32768 → n < 32768 → (nr + 32768 - a % 32768) % 32768 ≤ n
-    → (a + n + 32768 - nr) % 32768 ≤ n
-ahead_within nr a n small few within = omega arith
-
-within_ahead : (nr a n : ℕ) → nr < 32768 → n < 32768 → (a + n + 32768 - nr) % 32768 ≤ n
-    → (nr + 32768 - a % 32768) % 32768 ≤ n
-within_ahead nr a n small few within = omega arith
 
 -- two tests that imply each other
 same_test : (a b c d : ℕ) → (a ≤ b → c ≤ d) → (c ≤ d → a ≤ b) → leb a b ≡ leb c d

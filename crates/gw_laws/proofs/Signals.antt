@@ -15,16 +15,16 @@ use Rattle.gw_station.specs.declared.sending.Sending.{Sending}
 use Rattle.gw_station.specs.declared.sending.Sending.TheVariants as sendings
 use Rattle.gw_station.specs.Client.{Client}
 use Rattle.gw_station.specs.Frames.{confirmations_with}
-use Rattle.gw_station.specs.Pump.{content_of, client_with_sent}
+use Rattle.gw_station.specs.Pump.{client_with_sent}
 use Rattle.gw_station.proofs.All.{all-append}
-use Rattle.gw_steps.specs.Said.{ApduMeaning, UFormat, said_by}
+use Rattle.gw_steps.specs.Said.{ApduMeaning, UFormat}
 use Rattle.gw_steps.specs.State.{State}
 use Rattle.gw_steps.specs.Runs.{Entry, state_after}
 use Rattle.gw_history.specs.Life.{Taking, Turn, life, Idle, Takes, PutsOut, Ends}
 use Rattle.gw_history.specs.Premises.{client_at}
 use Rattle.gw_history.proofs.Places.{Place, SlotLives}
 use Rattle.gw_history.proofs.Told.{sound_at}
-use Rattle.gw_laws.proofs.Numbers.{WindowTied}
+use Rattle.gw_laws.proofs.Numbers.{WindowTied, says}
 use Rattle.gw_laws.specs.Connection.{At, Connection, TimedTurn, connection, turn_in, turns}
 use Rattle.gw_laws.specs.Signals.{ConfirmsInOrder, Signals, given, waiting, wanted}
 use Rattle.gw_laws.proofs.Links.{AllLinked, BecomesAt, ClientLinked, Linked, SlotLinked, TakesAt, linked_all}
@@ -90,10 +90,6 @@ took setup moment (U signal) taking ts k new takes tied = record {
   cons = subst (AllByRecursion IsCon) (sym takes.confirmations)
       (cons_more (confirmation_of signal) k.confirmations (confirms signal) tied.cons);
 }
-
-abbrev pub says : Setup → Client → Sending → ApduMeaning
-says setup k s = said_by (station_clocks setup.station)
-    (content_of (station_clocks setup.station) k s)
 
 -- a con that is put out is one of those given
 given_more : (signal : Signal) (ts : List Turn) → IsCon signal

@@ -22,14 +22,14 @@ use Rattle.gw_station.proofs.Opens.{open_s, open_i}
 use Rattle.gw_steps.specs.Said.{ApduMeaning, IFormat, SFormat, UFormat}
 use Rattle.gw_history.specs.Life.{Taking, Turn, Idle, Takes, PutsOut, Ends}
 use Rattle.gw_laws.specs.Numbers.{sent}
-use Rattle.gw_laws.proofs.Numbers.{WindowTied}
+use Rattle.gw_laws.proofs.Numbers.{WindowTied, says}
 use Rattle.gw_laws.specs.Closes.{acknowledged, beyond}
 use Rattle.gw_laws.specs.Connection.{At, TimedTurn, turn_in}
 use Rattle.gw_laws.specs.Times.{heard_at, sent_at, tested_at, unacknowledged, unreceipted}
 use Rattle.gw_laws.proofs.Links.{BecomesAt, IsNew, Linked, TakesAt, linked_all}
 use Rattle.gw_laws.proofs.Acknowledged.{AcknowledgedTied, acknowledged_tied, right_leaves}
 use Rattle.gw_laws.proofs.Offers.{IsOffer, offer_told}
-use Rattle.gw_laws.proofs.Signals.{IsCon, says, signals_tied}
+use Rattle.gw_laws.proofs.Signals.{IsCon, signals_tied}
 
 -- ---- the tie
 

@@ -40,9 +40,10 @@ use Rattle.gw_laws.specs.Times.{ClosesLate, Due, GivesDue, Times, TimesBy, ToAck
 use Rattle.gw_laws.proofs.Closes.{LinkedBefore}
 use Rattle.gw_laws.proofs.Links.{AllLinked, ClientLinked, SlotLinked}
 use Rattle.gw_laws.proofs.Line.{LineTied, line_is, line_tied}
+use Rattle.gw_laws.proofs.Numbers.{says as saying}
 use Rattle.gw_laws.proofs.News.{NewsTied, news_tied, stands}
 use Rattle.gw_laws.proofs.Offers.{IsInformation, informs}
-use Rattle.gw_laws.proofs.Signals.{says as saying, signals_tied, waiting_is}
+use Rattle.gw_laws.proofs.Signals.{signals_tied, waiting_is}
 use Rattle.gw_laws.proofs.Steps.{same_turns}
 use Rattle.gw_laws.proofs.Timers.{TimersTied, timers_tied}
 

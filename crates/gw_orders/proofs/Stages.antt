@@ -25,6 +25,7 @@ use Rattle.gw_station.specs.declared.client.Stage.TheVariants.{Started, Stopped}
 use Rattle.gw_station.specs.Client.{Client, client_after_close, client_after_tick, client_anew, is_started, is_timed_out}
 use Rattle.gw_station.specs.Frames.{begins, client_by, client_taking, close_of, closes_judged, command_in, event_by, event_taking, floods, judged_asdu}
 use Rattle.gw_station.specs.Pump.{client_after_pump, client_by_offer, offered}
+use Rattle.gw_station.proofs.Places.{not_flooded}
 use Rattle.gw_steps.specs.Controls.{client_told_of, clients_told}
 use Rattle.gw_steps.specs.Steps.{client_after_frame, client_answered}
 use Rattle.gw_steps.specs.Queries.{started_at}
@@ -153,10 +154,6 @@ information_started setup ns nr asdu k e =
 
 -- ---- a session begins
 
-flooded : (b : Bool) → first_of (when b Flooded ∷ []) ≡ None → b ≡ false
-flooded true e = absurd (let none : ⊥ = cc in none)
-flooded false e = refl
-
 flooding : (b : Bool) (why : Why) → first_of (when b Flooded ∷ []) ≡ Some why → b ≡ true
 flooding true why e = refl
 flooding false why e = absurd (let none : ⊥ = cc in none)
@@ -186,4 +183,4 @@ closed_begins setup (U TestCon) k why e = refl
 pub taken_begins : (setup : Setup) (k : Client) → close_of setup (U StartAct) k ≡ None
     → begins (U StartAct) k ≡ not (is_started k.stage)
 taken_begins setup k e =
-    once_not_started (is_started k.stage) (floods StartAct k) (flooded (floods StartAct k) e)
+    once_not_started (is_started k.stage) (floods StartAct k) (not_flooded (floods StartAct k) e)

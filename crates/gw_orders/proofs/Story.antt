@@ -23,6 +23,7 @@ use Rattle.gw_control.specs.Controls.{Controls, is_sbo}
 use Rattle.gw_control.specs.Intents.{command_intent}
 use Rattle.gw_control.specs.Orders.{Outgoing}
 use Rattle.gw_steps.specs.Runs.{Entry}
+use Rattle.gw_steps.specs.Controls.{is_up_at}
 use Rattle.gw_orders.specs.Executes.{Execute, executes, numbered}
 use Rattle.gw_orders.specs.Marks.{Mark, Asked, Answered, last_request, marks}
 use Rattle.gw_orders.specs.Bonds.{IsBonded}
@@ -131,16 +132,12 @@ abbrev pub sequence_at : Option Master → ℕ
 sequence_at None = 0
 sequence_at (Some m) = m.sequence
 
-abbrev pub up_at : Option Master → Bool
-up_at None = false
-up_at (Some m) = m.up
-
 -- towards one outstation
 pub record Holds (t : Story) (o : ℕ) (m : Option Master) (q : Option Outgoing) : Type 0 where
   pub waiting : AllByRecursion (Waits t o) (waiting_at q)
   pub going : GoesOn t o (exchange_at m) (under_way_at q)
   pub small : sequence_at m < 16
-  pub down : up_at m ≡ false → exchange_at m ≡ Idle
+  pub down : is_up_at m ≡ false → exchange_at m ≡ Idle
 
 abbrev pub OfOrder : Option Execute → List Mark → Type 0
 OfOrder None ms = ms ≡ []
