@@ -1,6 +1,6 @@
 -- What clients are told of their orders: of each client no more than its orders, and each of a command that operates
 -- controls.
-use Rattle.std.specs.List.{AllByRecursion}
+use Rattle.std.specs.List.{AllByRecursion, filter}
 use Rattle.std.specs.Option.{option_to_list}
 use Rattle.std.specs.Prelude.{slice_get, option_map, IfSome}
 use Rattle.std.proofs.Common.{◌≡◌, ℕ, zero, suc, ◌+◌, ◌≤◌, ◌*◌, Bool, true, false, cond, eqb, map, List, [], ◌∷◌, ◌++◌, length, Option, Some, None, refl, sym, ap, subst, ◌∙◌, arith, inl, inr}
@@ -186,15 +186,16 @@ no_orders setup s d k sound at stopped =
     subst (λ (x : Option Client). IfSome x (λ y. y.held ≡ 2 * orders_of d s.controls)) at (sound.held d) in
     omega (arith, held, mine.stopped stopped)
 
-operating_own : (d : ℕ) (xs : List Outcome) → AllByRecursion IsOperating xs
-    → AllByRecursion IsOperating (outcomes_for d xs)
-operating_own d [] all = tt
-operating_own d (x ∷ xs) all = kept (operating_own d xs all.1) (eqb x.client d)
+-- what holds of all holds of those that are kept
+pub filter_all : {A : Type 0} (P : A → Type 0) (keep : A → Bool) (xs : List A) → AllByRecursion P xs
+    → AllByRecursion P (filter keep xs)
+filter_all P keep [] all = tt
+filter_all P keep (x ∷ xs) all = by (filter_all P keep xs all.1) (keep x)
   where
-    kept : AllByRecursion IsOperating (outcomes_for d xs) → (own : Bool)
-        → AllByRecursion IsOperating (cond own (x ∷ outcomes_for d xs) (outcomes_for d xs))
-    kept others true = (all.0, others)
-    kept others false = others
+    by : AllByRecursion P (filter keep xs) → (b : Bool)
+        → AllByRecursion P (cond b (x ∷ filter keep xs) (filter keep xs))
+    by rest true = (all.0, rest)
+    by rest false = rest
 
 -- no more orders ended than the client had before
 pub came_told : (setup : Setup) (s : State) (d : ℕ) (k : Client) (v new : Controls) (news : List Observation)
@@ -206,7 +207,7 @@ came_told setup s d k v new news xs sound at few told = record {
   becomes = refl;
   stopped = λ stopped. nil_from_length (outcomes_for d xs)
       (omega (arith, told.ends, few, no_orders setup s d k sound at stopped));
-  operating = operating_own d xs told.operating;
+  operating = filter_all IsOperating (λ (x : Outcome). eqb x.client d) xs told.operating;
 }
 
 -- ---- what is told in a step

@@ -1,5 +1,5 @@
 -- The common addresses of commands that are accepted, of what answers them and of what an interrogation asks are known.
-use Rattle.std.specs.Prelude.{IfSome, IsTrue, filter, option_map, slice_get}
+use Rattle.std.specs.Prelude.{IfSome, IsTrue, option_map, slice_get}
 use Rattle.std.specs.List.{AllByRecursion, list_any}
 use Rattle.std.proofs.Common.{◌≡◌, ℕ, zero, suc, Bool, true, false, cond, ◌&&◌, ◌||◌, ◌==◌, List, [], ◌∷◌, ◌++◌, map, Option, Some, None, Result, Ok, Err, refl, ap, inl, inr}
 use Rattle.std.proofs.lemmas.Bool.{cases_Bool, eq-eqb}
@@ -34,6 +34,7 @@ use Rattle.gw_station.specs.Answers.{rest_with, told}
 use Rattle.gw_station.specs.Client.{Client}
 use Rattle.gw_station.specs.Frames.{command_in, judged_asdu}
 use Rattle.gw_station.proofs.All.{all-append}
+use Rattle.gw_history.proofs.Told.{filter_all}
 
 -- ---- what is under known common addresses
 
@@ -156,15 +157,6 @@ first_asked_known setup all n is = elim (cases_Bool (n == 65535)) [
 ]
 
 -- ---- the answer to an interrogation
-
-pub filter_all : {A : Type 0} (P : A → Type 0) (p : A → Bool) (xs : List A) → AllByRecursion P xs
-    → AllByRecursion P (filter p xs)
-filter_all P p [] all = tt
-filter_all P p (x ∷ xs) all = kept (filter_all P p xs all.1) (p x)
-  where
-    kept : AllByRecursion P (filter p xs) → (b : Bool) → AllByRecursion P (cond b (x ∷ filter p xs) (filter p xs))
-    kept others true = (all.0, others)
-    kept others false = others
 
 rows_known : (setup : Setup) (cause : ℕ) (c : Command) (xs : List Observation) → IsKnownCommand setup c
     → AllByRecursion (IsKnownObservation setup) xs

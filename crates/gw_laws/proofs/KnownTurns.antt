@@ -33,7 +33,8 @@ use Rattle.gw_history.specs.Accepted.{is_accepted}
 use Rattle.gw_history.specs.Log.{log_of, news_after_log, news_of_step}
 use Rattle.gw_history.specs.Life.{Turn, Idle, Takes, PutsOut, Ends, bringing, nothing_new, puts_out, turn_taking, turn_giving, is_closed_in, outcomes_in, outcomes_for, said_in, turn_with, turn_of, lived, life}
 use Rattle.gw_history.specs.Premises.{HasKnownRows}
-use Rattle.gw_laws.proofs.KnownCommands.{IsKnownObservation, filter_all}
+use Rattle.gw_history.proofs.Told.{filter_all}
+use Rattle.gw_laws.proofs.KnownCommands.{IsKnownObservation}
 use Rattle.gw_laws.proofs.KnownOrders.{IsKnownOutcome, orders_known, outcomes_known}
 
 -- ---- pictures

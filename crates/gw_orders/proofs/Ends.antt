@@ -1,7 +1,7 @@
 -- Orders end: sessions end, outstations are lost, answers are late.
 use Rattle.std.proofs.Common.{◌≡◌, ℕ, zero, suc, ◌+◌, ◌<◌, Bool, true, false, cond, List, [], ◌∷◌, drop, map, Option, Some, None, option_map, refl, sym, ap, subst, ◌∙◌, arith}
 use Rattle.std.specs.Prelude.{option_and_then, slice_get}
-use Rattle.std.specs.List.{AllByRecursion, filter}
+use Rattle.std.specs.List.{AllByRecursion}
 use Rattle.std.proofs.lemmas.Bool.{eq-eqb}
 use Rattle.gw_model.specs.declared.control.Ended.{Ended}
 use Rattle.gw_model.specs.declared.control.Order.{Order}
@@ -17,21 +17,12 @@ use Rattle.gw_control.specs.Controls.{Controls, controls_after_end, controls_aft
 use Rattle.gw_control.specs.Held.{controls_after_losses}
 use Rattle.gw_control.specs.Orders.{Outgoing, is_of_others, left_by, outgoing_after_end, outgoing_after_ended, outgoing_after_lost, under_way_after}
 use Rattle.gw_steps.specs.Controls.{controls_after_all_ended, controls_after_closes, controls_with_ended}
+use Rattle.gw_history.proofs.Told.{filter_all}
 use Rattle.gw_orders.proofs.Held.{under_way_at, waiting_at}
 use Rattle.gw_orders.proofs.Story.{ForTask, GoesOn, Holds, Sends, Story, Tied, Waits, exchange_at}
 use Rattle.gw_orders.proofs.Moves.{AlikeBut}
 
 -- ---- a session ends
-
-filter_all : {A : Type 0} (P : A → Type 0) (keep : A → Bool) (xs : List A) → AllByRecursion P xs
-    → AllByRecursion P (filter keep xs)
-filter_all P keep [] all = tt
-filter_all P keep (x ∷ xs) all = by (filter_all P keep xs all.1) (keep x)
-  where
-    by : AllByRecursion P (filter keep xs) → (b : Bool)
-        → AllByRecursion P (cond b (x ∷ filter keep xs) (filter keep xs))
-    by rest true = (all.0, rest)
-    by rest false = rest
 
 none_left : (c : ℕ) (u : Option UnderWay) → u ≡ None → option_map (left_by c) u ≡ None
 none_left c u none = ap (option_map (left_by c)) none
