@@ -12,7 +12,7 @@ use Rattle.gw_model.specs.declared.control.Ended.{Ended}
 use Rattle.gw_model.specs.declared.observation.Observation.{Observation}
 use Rattle.gw_entries.specs.Setup.{StationSetup}
 use Rattle.gw_map.specs.Settings.{Setup}
-use Rattle.gw_picture.proofs.Lists.{change-here, change-there, map-get, some_is}
+use Rattle.gw_picture.proofs.Lists.{change-here, change-length, change-there, map-get, some_is}
 use Rattle.gw_control.specs.declared.answer.Outcome.{Outcome}
 use Rattle.gw_control.specs.Controls.{Controls, controls_after_end, controls_after_ended, controls_after_lost}
 use Rattle.gw_control.specs.Held.{controls_after_losses, orders_of, outcomes_to}
@@ -53,6 +53,11 @@ told_own d (x ∷ xs) ks =
       | inr ne ↦ rw (ne_eqb x.client d ne)
           (ap (option_map (client_told_all (outcomes_for d xs))) (change-there x.client d (client_told_of x) ks ne))
     ]
+
+pub told_length : (xs : List Outcome) (ks : List Client) → length (clients_told xs ks) ≡ length ks
+told_length [] ks = refl
+told_length (x ∷ xs) ks =
+    told_length xs (change x.client (client_told_of x) ks) ∙ change-length x.client (client_told_of x) ks
 
 -- ---- what is told while the controls change
 

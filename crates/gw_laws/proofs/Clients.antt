@@ -3,26 +3,20 @@ use Rattle.std.proofs.Common.{◌≡◌, ℕ, Bool, true, false, cond, List, [],
 use Rattle.std.proofs.lemmas.List.{length-map}
 use Rattle.gw_model.specs.declared.control.Order.{Order}
 use Rattle.gw_model.specs.declared.observation.Observation.{Observation}
-use Rattle.gw_model.specs.Places.{change}
 use Rattle.gw_map.specs.Settings.{Setup, station_clocks}
 use Rattle.gw_picture.specs.Picture.{news_of}
 use Rattle.gw_picture.proofs.Lists.{change-length}
-use Rattle.gw_control.specs.declared.answer.Outcome.{Outcome}
-use Rattle.gw_station.specs.Client.{Client, client_after_tick, client_with_news}
+use Rattle.gw_station.specs.Client.{client_after_tick, client_with_news}
 use Rattle.gw_steps.specs.declared.step.Step.{Step}
 use Rattle.gw_steps.specs.declared.step.Step.TheVariants as steps
 use Rattle.gw_steps.specs.declared.step.Reply.{Reply}
 use Rattle.gw_steps.specs.declared.step.StepFault.{StepFault}
-use Rattle.gw_steps.specs.Controls.{client_told_of, clients_told, order_due}
+use Rattle.gw_steps.specs.Controls.{order_due}
 use Rattle.gw_steps.specs.State.{State}
 use Rattle.gw_steps.specs.Steps.{after, is_accepting, latest, losses, outcomes_of_fragment, outcomes_of_loss, outcomes_of_tick, parts_after_fragment, parts_after_poll}
 use Rattle.gw_steps.specs.Runs.{Entry, state_after}
 use Rattle.gw_steps.proofs.Running.{entry}
-
-told_length : (xs : List Outcome) (ks : List Client) → length (clients_told xs ks) ≡ length ks
-told_length [] ks = refl
-told_length (x ∷ xs) ks =
-    told_length xs (change x.client (client_told_of x) ks) ∙ change-length x.client (client_told_of x) ks
+use Rattle.gw_history.proofs.Told.{told_length}
 
 polled_length : (s : State) (moment o wall : ℕ) (order : Option Order)
     → length (parts_after_poll s moment o wall order).clients ≡ length s.clients

@@ -35,12 +35,13 @@ use Rattle.gw_steps.proofs.Running.{entry}
 use Rattle.gw_history.specs.Accepted.{moment_after}
 use Rattle.gw_history.specs.Life.{has_bit}
 use Rattle.gw_history.proofs.Bits.{bit_told}
+use Rattle.gw_history.proofs.Told.{told_length}
 use Rattle.gw_orders.specs.Selections.{Selected, moment_at, selected, selected_with}
 use Rattle.gw_orders.proofs.Changed.{all_told, told_kept}
 use Rattle.gw_orders.proofs.Opened.{Leaves, end_leaves, none_current, none_kept, none_open, open_at, open_left, still_leaves, unless_none}
 use Rattle.gw_orders.proofs.SelectionCloses.{ended_selections, ended_sessions, lost_selections, lost_sessions, tick_leaves}
 use Rattle.gw_steps.specs.Queries.{started_at}
-use Rattle.gw_orders.proofs.Stages.{pumped_stage, ticked_stage, told_length, told_stage}
+use Rattle.gw_orders.proofs.Stages.{pumped_stage, ticked_stage, told_stage}
 use Rattle.gw_orders.proofs.CommandFrames.{FreshState, IsFresh, Framed, ending, framed, framing, leaving, staying}
 
 -- after a step with a reply

@@ -1,5 +1,5 @@
 -- Which clients are started, as steps change them.
-use Rattle.std.proofs.Common.{◌≡◌, ℕ, zero, suc, Bool, true, false, cond, not, ◌&&◌, List, [], ◌∷◌, drop, length, map, Option, Some, None, option_map, refl, sym, ap, subst, ◌∙◌, inl, inr}
+use Rattle.std.proofs.Common.{◌≡◌, ℕ, zero, suc, Bool, true, false, cond, not, ◌&&◌, List, [], ◌∷◌, drop, map, Option, Some, None, option_map, refl, sym, ap, subst, ◌∙◌, inl, inr}
 use Rattle.std.specs.Prelude.{◌==◌, slice_get}
 use Rattle.std.proofs.lemmas.Bool.{cases_eq, eq-eqb, ne_eqb}
 use Rattle.gw_model.specs.First.{first_of, when}
@@ -7,7 +7,7 @@ use Rattle.gw_model.specs.Places.{change}
 use Rattle.gw_model.specs.declared.observation.Observation.{Observation}
 use Rattle.gw_model.specs.Clocks.{Clocks}
 use Rattle.gw_map.specs.Settings.{Setup}
-use Rattle.gw_picture.proofs.Lists.{change-here, change-length, change-there}
+use Rattle.gw_picture.proofs.Lists.{change-here, change-there}
 use Rattle.iec_apci.specs.declared.apdu.Apdu.{Apdu}
 use Rattle.iec_apci.specs.declared.apdu.Asdu.{Asdu}
 use Rattle.iec_apci.specs.declared.apdu.Apdu.TheVariants.{I, S, U}
@@ -63,11 +63,6 @@ told_stage [] ks c = refl
 told_stage (x ∷ xs) ks c =
     told_stage xs (change x.client (client_told_of x) ks) c
     ∙ told_kept started_at x.client (client_told_of x) ks c (λ k. refl)
-
-pub told_length : (xs : List Outcome) (ks : List Client) → length (clients_told xs ks) ≡ length ks
-told_length [] ks = refl
-told_length (x ∷ xs) ks =
-    told_length xs (change x.client (client_told_of x) ks) ∙ change-length x.client (client_told_of x) ks
 
 -- ---- a tick
 
