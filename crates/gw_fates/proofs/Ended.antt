@@ -4,7 +4,7 @@ use Rattle.std.specs.Prelude.{slice_get}
 use Rattle.std.specs.Option.{option_to_list}
 use Rattle.gw_model.specs.First.{when}
 use Rattle.gw_model.specs.declared.control.Ended.{Ended}
-use Rattle.gw_picture.proofs.Lists.{change-here, change-there}
+use Rattle.gw_picture.proofs.Lists.{change-here}
 use Rattle.gw_control.specs.declared.accepted.Accepted.{Accepted}
 use Rattle.gw_control.specs.declared.accepted.UnderWay.{UnderWay}
 use Rattle.gw_control.specs.Controls.{Controls}
@@ -68,12 +68,6 @@ with_ended p o (Some e) v =
       changed p 0 o o 0 (ended_so p o (Some e) (way_at (slice_get v.outgoing o))) (outgoing_after_ended e) v.outgoing
           (omega arith) (ending_at p o e (slice_get v.outgoing o)),
     )
-
--- those of other outstations stay
-pub ended_there : (o : ℕ) (e : Option Ended) (v : Controls) (n : ℕ) → (o ≡ n → ⊥)
-    → slice_get (controls_with_ended o e v).outgoing n ≡ slice_get v.outgoing n
-ended_there o None v n ne = refl
-ended_there o (Some e) v n ne = change-there o n (outgoing_after_ended e) v.outgoing ne
 
 pub ended_here : (o : ℕ) (e : Ended) (v : Controls)
     → slice_get (controls_with_ended o (Some e) v).outgoing o

@@ -14,9 +14,10 @@ use Rattle.gw_steps.specs.Controls.{controls_after_all_ended, controls_with_ende
 use Rattle.gw_steps.specs.Effects.{effects_of_tick, end_at, late, let_go}
 use Rattle.gw_steps.specs.State.{State}
 use Rattle.gw_steps.specs.Steps.{controls_closed, ended_late}
+use Rattle.gw_history.proofs.Ended.{ended_there}
 use Rattle.gw_fates.specs.Fates.{Named, named_by}
 use Rattle.gw_fates.proofs.Counts.{all_so, times, way_at}
-use Rattle.gw_fates.proofs.Ended.{end_told, ended_so, ended_there, ends_append, with_ended}
+use Rattle.gw_fates.proofs.Ended.{end_told, ended_so, ends_append, with_ended}
 use Rattle.gw_fates.proofs.Leaving.{let_go_told, sessions_end, ways_stay}
 use Rattle.gw_fates.proofs.Says.{tick_says}
 

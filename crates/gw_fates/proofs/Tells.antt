@@ -33,9 +33,9 @@ use Rattle.gw_steps.specs.Steps.{controls_closed, ended_late, is_accepting, late
 use Rattle.gw_steps.specs.Runs.{Entry, state_after, unless_fault, AtEach}
 use Rattle.gw_steps.proofs.Running.{last_place}
 use Rattle.gw_history.specs.Premises.{IsSoundRun}
+use Rattle.gw_history.proofs.Ended.{ended_there}
 use Rattle.gw_fates.specs.Told.{controls_then, told_by_outcome, TellsFates}
 use Rattle.gw_fates.proofs.Counts.{waiting_at, way_at}
-use Rattle.gw_fates.proofs.Ended.{ended_there}
 use Rattle.gw_fates.proofs.Leaving.{ways_stay}
 use Rattle.gw_fates.proofs.Lost.{few_wait, still_waiting}
 use Rattle.gw_fates.proofs.Says.{fragment_says, loss_says, tick_says}

@@ -6,6 +6,7 @@ pub mod Steps
 pub mod Lives
 pub mod Told
 pub mod Bits
+pub mod Ended
 pub mod Clients
 pub mod Places
 pub mod Logged

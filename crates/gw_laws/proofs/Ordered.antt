@@ -1,5 +1,5 @@
 -- How many orders there are after each step.
-use Rattle.std.proofs.Common.{◌≡◌, ℕ, zero, suc, ◌+◌, Bool, true, false, cond, List, [], ◌∷◌, map, Option, Some, None, refl, ◌∙◌, arith}
+use Rattle.std.proofs.Common.{◌≡◌, ℕ, suc, ◌+◌, Bool, true, false, cond, List, [], ◌∷◌, map, Option, Some, None, refl, ◌∙◌, arith}
 use Rattle.std.specs.Prelude.{slice_get}
 use Rattle.gw_model.specs.declared.control.Act.{Act}
 use Rattle.gw_model.specs.declared.control.Ended.{Ended}
@@ -12,8 +12,7 @@ use Rattle.iec_apci.specs.declared.apdu.Signal.TheVariants.{StartAct, StartCon, 
 use Rattle.iec_command.specs.declared.command.Command.{Command}
 use Rattle.gw_control.specs.declared.asked.AskedCommand.{AskedCommand}
 use Rattle.gw_control.specs.declared.selection.Selection.{Selection}
-use Rattle.gw_control.specs.Controls.{Controls, act_accepted, answer_at, answer_to_act, confirmed_if, controls_after_at, controls_after_end, controls_after_lost, controls_ordering, controls_selecting, controls_unselecting, is_deactivation, is_order, is_selectable, standing_at}
-use Rattle.gw_control.specs.Held.{controls_after_losses}
+use Rattle.gw_control.specs.Controls.{Controls, act_accepted, answer_at, answer_to_act, confirmed_if, controls_after_at, controls_after_end, controls_ordering, controls_selecting, controls_unselecting, is_deactivation, is_order, is_selectable, standing_at}
 use Rattle.gw_control.specs.Intents.{control_for}
 use Rattle.gw_control.specs.Orders.{places}
 use Rattle.gw_control.specs.Selections.{is_own, is_select}
@@ -22,9 +21,10 @@ use Rattle.gw_station.specs.Client.{Client, is_timed_out}
 use Rattle.gw_station.specs.Frames.{close_of, command_given, command_in, event_by}
 use Rattle.gw_steps.specs.declared.step.Step.{Step}
 use Rattle.gw_steps.specs.declared.step.Step.TheVariants as steps
-use Rattle.gw_steps.specs.Controls.{asked_by, controls_after_all_ended, controls_after_closes, controls_after_event, controls_after_taken, controls_with_ended, ended_lost, order_due}
+use Rattle.gw_steps.specs.Controls.{asked_by, controls_after_closes, controls_after_event, controls_after_taken, controls_with_ended, ended_lost, order_due}
 use Rattle.gw_steps.specs.State.{State}
 use Rattle.gw_steps.specs.Steps.{after, command_of, controls_after_frame, controls_closed, ended_late, is_accepting, is_ordering, latest, needs, one_if, order_ended, parts_after_fragment, parts_after_poll}
+use Rattle.gw_history.proofs.Ended.{all_ended_count, ended_count, losses_count}
 
 -- ---- a command
 
@@ -70,19 +70,6 @@ taken_none c (U StopCon) v = refl
 taken_none c (U TestAct) v = refl
 taken_none c (U TestCon) v = refl
 
-ended_none : (o : ℕ) (ended : Option Ended) (v : Controls) → (controls_with_ended o ended v).ordered ≡ v.ordered
-ended_none o None v = refl
-ended_none o (Some ended) v = refl
-
-losses_none : (n o : ℕ) (v : Controls) → (controls_after_losses n o v).ordered ≡ v.ordered
-losses_none zero o v = refl
-losses_none (suc n) o v = losses_none n o (controls_after_lost o v)
-
-all_ended_none : (o : ℕ) (ended : List (Option Ended)) (v : Controls)
-    → (controls_after_all_ended o ended v).ordered ≡ v.ordered
-all_ended_none o [] v = refl
-all_ended_none o (e ∷ more) v = all_ended_none (suc o) more (controls_with_ended o e v) ∙ ended_none o e v
-
 closes_none : (c : ℕ) (closed : List Bool) (v : Controls) → (controls_after_closes c closed v).ordered ≡ v.ordered
 closes_none c [] v = refl
 closes_none c (true ∷ more) v = closes_none (suc c) more (controls_after_end c v)
@@ -117,19 +104,19 @@ ordered_more setup s (steps.OutstationDown o m) =
     let ended : Option Ended = ended_lost (slice_get s.outstations o) in
     omega (
       arith,
-      losses_none places o (controls_with_ended o ended s.controls) ∙ ended_none o ended s.controls,
+      losses_count places o (controls_with_ended o ended s.controls) ∙ ended_count o ended s.controls,
     )
 ordered_more setup s (steps.Fragment f m) = omega (arith, by (is_accepting s f))
   where
     by : (taken : Bool)
         → (cond taken (parts_after_fragment setup s (latest s m) f) s).controls.ordered ≡ s.controls.ordered
-    by true = ended_none f.outstation (order_ended s f) s.controls
+    by true = ended_count f.outstation (order_ended s f) s.controls
     by false = refl
 ordered_more setup s (steps.Poll o m wall) = omega (arith, polled s (latest s m) o wall (order_due s o))
 ordered_more setup s (steps.Tick m) =
     let closed : List Bool = map (is_timed_out (latest s m)) s.clients in
     let v : Controls = controls_closed s (latest s m) in
-    omega (arith, all_ended_none 0 (ended_late s (latest s m)) v ∙ closes_none 0 closed s.controls)
+    omega (arith, all_ended_count 0 (ended_late s (latest s m)) v ∙ closes_none 0 closed s.controls)
 ordered_more setup s (steps.ClientUp c m) = omega arith
 ordered_more setup s (steps.ClientDown c m) = omega arith
 ordered_more setup s (steps.Frame c apdu m) = framed setup s (latest s m) c apdu (slice_get s.clients c)

@@ -33,6 +33,7 @@ use Rattle.gw_steps.specs.Steps.{outcomes_of, outcomes_of_loss, outcomes_of_tick
 use Rattle.gw_steps.specs.Runs.{Entry, state_after}
 use Rattle.gw_steps.proofs.Inversion.{answered, who_is_up, who_is_down}
 use Rattle.gw_steps.proofs.Running.{entry}
+use Rattle.gw_history.proofs.Ended.{ended_count, ended_there}
 use Rattle.gw_orders.specs.Executes.{numbered}
 use Rattle.gw_orders.specs.Marks.{is_end, given_by, mark_answered, marks}
 use Rattle.gw_orders.specs.Bonds.{HasShortIndex, IsBound}
@@ -40,7 +41,7 @@ use Rattle.gw_orders.proofs.Held.{held, held_at, held_changed, held_taking, held
 use Rattle.gw_orders.proofs.Story.{Holds, Waits, Story, Tied, alike_self, story, GoesOn}
 use Rattle.gw_orders.proofs.Moves.{AlikeBut, Moves, in_order_at, moved}
 use Rattle.gw_orders.proofs.BondPolls.{Polled, outgoing_polled, master_polled, polled, story_polled, with_outstation}
-use Rattle.gw_orders.proofs.Ends.{ended_count, ended_here, ended_there, ended_waiting, controls_lost, idle_holds, lost_count, lost_holds, lost_there, tied_closes, tied_end, tied_late}
+use Rattle.gw_orders.proofs.Ends.{ended_here, ended_waiting, controls_lost, idle_holds, lost_count, lost_holds, lost_there, tied_closes, tied_end, tied_late}
 use Rattle.gw_orders.proofs.Tells.{TellsAt, failure_tells}
 use Rattle.gw_orders.proofs.BondsTold.{Ending, Leads, ToldTied, closes_fewer, end_fewer, ending_both, late_end, order_ends, told_ending, told_fewer, told_kept, waiting_fail}
 use Rattle.gw_orders.proofs.Verdicts.{Answers, judged, story_ended}

@@ -21,12 +21,13 @@ use Rattle.gw_control.specs.Held.{controls_after_losses}
 use Rattle.gw_control.specs.Moves.{one_if}
 use Rattle.gw_control.specs.Orders.{Outgoing, is_named, outcome_of, outgoing_after_end, outgoing_after_ended, outgoing_after_lost}
 use Rattle.gw_steps.specs.Controls.{controls_after_all_ended, controls_after_closes, controls_with_ended, outcome_ended, outcomes_ended, outcomes_lost}
+use Rattle.gw_history.proofs.Ended.{ended_there}
 use Rattle.gw_orders.specs.Executes.{Execute}
 use Rattle.gw_orders.specs.Marks.{Mark}
 use Rattle.gw_orders.specs.ToldOnce.{AllTell, TellsOf, counted, was_done}
 use Rattle.gw_orders.proofs.Held.{held, held_at, held_changed, held_leaving, held_mapped, held_nowhere, held_under_way, held_waiting, under_way_at, waiting_at}
 use Rattle.gw_orders.proofs.Story.{ForTask, GoesOn, Holds, Keeps, Sends, Story, Tied, Waits, exchange_at, numbered_below}
-use Rattle.gw_orders.proofs.Ends.{ended_there, flat, flat_at, lost_waiting}
+use Rattle.gw_orders.proofs.Ends.{flat, flat_at, lost_waiting}
 use Rattle.gw_orders.proofs.Tells.{Tells, TellsAt, failure_tells, waiting_tells}
 
 -- no order that was told of is there any more

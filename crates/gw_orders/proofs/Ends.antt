@@ -5,7 +5,7 @@ use Rattle.std.specs.List.{AllByRecursion}
 use Rattle.std.proofs.lemmas.Bool.{eq-eqb}
 use Rattle.gw_model.specs.declared.control.Ended.{Ended}
 use Rattle.gw_model.specs.declared.control.Order.{Order}
-use Rattle.gw_picture.proofs.Lists.{change-here, change-there, map-get}
+use Rattle.gw_picture.proofs.Lists.{change-here, map-get}
 use Rattle.dnp_master.specs.declared.exchange.Exchange.{Exchange}
 use Rattle.dnp_master.specs.declared.exchange.Exchange.TheVariants.{Idle, Waiting, Selected}
 use Rattle.dnp_master.specs.declared.task.Task.{Task}
@@ -18,6 +18,7 @@ use Rattle.gw_control.specs.Held.{controls_after_losses}
 use Rattle.gw_control.specs.Orders.{Outgoing, is_of_others, left_by, outgoing_after_end, outgoing_after_ended, outgoing_after_lost, under_way_after}
 use Rattle.gw_steps.specs.Controls.{controls_after_all_ended, controls_after_closes, controls_with_ended}
 use Rattle.gw_history.proofs.Told.{filter_all}
+use Rattle.gw_history.proofs.Ended.{all_ended_count, ended_count, ended_there, losses_count, losses_there}
 use Rattle.gw_orders.proofs.Held.{under_way_at, waiting_at}
 use Rattle.gw_orders.proofs.Story.{ForTask, GoesOn, Holds, Sends, Story, Tied, Waits, exchange_at}
 use Rattle.gw_orders.proofs.Moves.{AlikeBut}
@@ -89,15 +90,6 @@ pub ended_here : (o : ℕ) (e : Option Ended) (v : Controls)
     → slice_get (controls_with_ended o e v).outgoing o ≡ ended_at e (slice_get v.outgoing o)
 ended_here o None v = refl
 ended_here o (Some e) v = change-here o (outgoing_after_ended e) v.outgoing
-
-pub ended_there : (o : ℕ) (e : Option Ended) (v : Controls)
-    → AlikeBut o v.outgoing (controls_with_ended o e v).outgoing
-ended_there o None v p ne = refl
-ended_there o (Some e) v p ne = change-there o p (outgoing_after_ended e) v.outgoing ne
-
-pub ended_count : (o : ℕ) (e : Option Ended) (v : Controls) → (controls_with_ended o e v).ordered ≡ v.ordered
-ended_count o None v = refl
-ended_count o (Some e) v = refl
 
 -- those that wait go on waiting
 pub ended_waiting : (e : Option Ended) (q : Option Outgoing) → waiting_at (ended_at e q) ≡ waiting_at q
@@ -188,11 +180,6 @@ ended_from d (e ∷ more) v (suc i) p at =
     ended_from (suc d) more (controls_with_ended d e v) i p (omega (arith, at))
     ∙ ap (ended_at (flat (slice_get more i))) (ended_there d e v p (λ is. omega (arith, at, is)))
 
-all_ended_count : (d : ℕ) (es : List (Option Ended)) (v : Controls)
-    → (controls_after_all_ended d es v).ordered ≡ v.ordered
-all_ended_count d [] v = refl
-all_ended_count d (e ∷ more) v = all_ended_count (suc d) more (controls_with_ended d e v) ∙ ended_count d e v
-
 flat_map : (f : Master → Option Ended) (m : Option Master) → flat (option_map f m) ≡ option_and_then f m
 flat_map f None = refl
 flat_map f (Some m) = refl
@@ -235,11 +222,6 @@ lost_under_way : (q : Option Outgoing) → under_way_at (option_map outgoing_aft
 lost_under_way None = refl
 lost_under_way (Some q) = refl
 
-losses_there : (n o : ℕ) (v : Controls) → AlikeBut o v.outgoing (controls_after_losses n o v).outgoing
-losses_there zero o v p ne = refl
-losses_there (suc n) o v p ne =
-    losses_there n o (controls_after_lost o v) p ne ∙ change-there o p outgoing_after_lost v.outgoing ne
-
 losses_waiting : (t : Story) (n o : ℕ) (v : Controls) → AllByRecursion (Waits t o) (waiting_at (slice_get v.outgoing o))
     → AllByRecursion (Waits t o) (waiting_at (slice_get (controls_after_losses n o v).outgoing o))
 losses_waiting t zero o v all = all
@@ -254,10 +236,6 @@ losses_under_way zero o v = refl
 losses_under_way (suc n) o v =
     losses_under_way n o (controls_after_lost o v)
     ∙ (ap under_way_at (change-here o outgoing_after_lost v.outgoing) ∙ lost_under_way (slice_get v.outgoing o))
-
-losses_count : (n o : ℕ) (v : Controls) → (controls_after_losses n o v).ordered ≡ v.ordered
-losses_count zero o v = refl
-losses_count (suc n) o v = losses_count n o (controls_after_lost o v)
 
 -- the order under way failed, and then so many that wait
 abbrev pub controls_lost : ℕ → ℕ → Option Ended → Controls → Controls

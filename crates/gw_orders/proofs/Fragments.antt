@@ -27,9 +27,10 @@ use Rattle.gw_steps.specs.Steps.{after, can_be_counted, fault_of, is_accepting, 
 use Rattle.gw_steps.specs.Runs.{Entry}
 use Rattle.gw_steps.proofs.Inversion.{answered, who_is_up}
 use Rattle.gw_steps.proofs.Running.{entry}
+use Rattle.gw_history.proofs.Ended.{ended_there}
 use Rattle.gw_orders.specs.Marks.{is_end, marks}
 use Rattle.gw_orders.specs.ToldOnce.{was_done}
-use Rattle.gw_orders.proofs.Ends.{ended_at, ended_here, ended_there, ended_waiting}
+use Rattle.gw_orders.proofs.Ends.{ended_at, ended_here, ended_waiting}
 use Rattle.gw_orders.proofs.Held.{under_way_at, waiting_at}
 use Rattle.gw_orders.proofs.Moves.{in_order_at}
 use Rattle.gw_orders.proofs.BondSteps.{story_of_end}

@@ -13,7 +13,8 @@ use Rattle.gw_control.specs.Orders.{Outgoing}
 use Rattle.gw_steps.specs.declared.step.Reply.{Reply}
 use Rattle.gw_steps.specs.Controls.{controls_with_ended, outcome_ended, outcomes_ended}
 use Rattle.gw_steps.specs.Runs.{Entry}
-use Rattle.gw_orders.proofs.Ends.{ended_at, ended_there, flat}
+use Rattle.gw_history.proofs.Ended.{ended_there}
+use Rattle.gw_orders.proofs.Ends.{ended_at, flat}
 use Rattle.gw_orders.specs.Pending.{Pending, after_sessions, is_over, kept, made_in, pending_with}
 use Rattle.gw_orders.specs.Outcomes.{Telling, due_at, due_from, due_with, telling_of}
 use Rattle.gw_orders.proofs.Rows.{none_leaves, quiet, rows}

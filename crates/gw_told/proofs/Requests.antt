@@ -1,10 +1,9 @@
 -- A step tells of each outstation to which it makes a request due.
-use Rattle.std.proofs.Common.{◌≡◌, ℕ, zero, suc, Bool, true, false, cond, not, ◌&&◌, ◌||◌, List, [], ◌∷◌, map, Option, Some, None, option_map, refl, sym, ap, ◌∙◌, arith, inl, inr}
+use Rattle.std.proofs.Common.{◌≡◌, ℕ, Bool, true, false, cond, not, ◌&&◌, ◌||◌, List, [], ◌∷◌, map, Option, Some, None, option_map, refl, sym, ap, ◌∙◌, arith, inl, inr}
 use Rattle.std.specs.Prelude.{is_some, slice_get}
 use Rattle.std.proofs.lemmas.Bool.{cases_eq}
 use Rattle.gw_model.specs.Places.{change}
 use Rattle.gw_model.specs.declared.control.Act.{Act}
-use Rattle.gw_model.specs.declared.control.Ended.{Ended}
 use Rattle.gw_model.specs.declared.control.Order.{Order}
 use Rattle.gw_entries.specs.declared.control.Control.{Control}
 use Rattle.gw_map.specs.Settings.{Setup}
@@ -20,10 +19,10 @@ use Rattle.gw_control.specs.declared.accepted.Accepted.{Accepted}
 use Rattle.gw_control.specs.declared.accepted.UnderWay.{UnderWay}
 use Rattle.gw_control.specs.declared.asked.AskedCommand.{AskedCommand}
 use Rattle.gw_control.specs.declared.selection.Selection.{Selection}
-use Rattle.gw_control.specs.Controls.{Controls, act_accepted, answer_at, answer_to_act, confirmed_if, controls_after_at, controls_after_lost, controls_ordering, controls_selecting, controls_unselecting, is_deactivation, is_order, is_selectable, order_at, standing_at}
+use Rattle.gw_control.specs.Controls.{Controls, act_accepted, answer_at, answer_to_act, confirmed_if, controls_after_at, controls_ordering, controls_selecting, controls_unselecting, is_deactivation, is_order, is_selectable, order_at, standing_at}
 use Rattle.gw_control.specs.Held.{controls_after_losses}
 use Rattle.gw_control.specs.Intents.{control_for}
-use Rattle.gw_control.specs.Orders.{Outgoing, outgoing_after_end, outgoing_after_ended, outgoing_after_lost, outgoing_after_taking, places}
+use Rattle.gw_control.specs.Orders.{Outgoing, outgoing_after_end, outgoing_after_taking, places}
 use Rattle.gw_control.specs.Selections.{is_own, is_select}
 use Rattle.gw_station.specs.declared.event.Event.{Event}
 use Rattle.gw_station.specs.declared.event.Event.TheVariants as events
@@ -36,6 +35,7 @@ use Rattle.gw_steps.specs.Effects.{Effects, answered, due_from, effects_of, effe
 use Rattle.gw_steps.specs.Queries.{is_due, is_poll_due_of}
 use Rattle.gw_steps.specs.State.{State}
 use Rattle.gw_steps.specs.Steps.{after, controls_after_frame, is_accepting, latest, order_ended, parts_after_fragment, parts_after_poll}
+use Rattle.gw_history.proofs.Ended.{ended_there, losses_there}
 use Rattle.gw_told.specs.Rousing.{becomes_due, is_among}
 use Rattle.gw_told.proofs.Coming.{all_told, is_now, is_one, none_comes}
 
@@ -93,17 +93,6 @@ up_rouses setup s o m p comes = elim (cases_eq o p) [
     ms : List Master
     ms = change o (master_after_up moment) s.outstations
 
-ended_there : (o : ℕ) (e : Option Ended) (v : Controls) (n : ℕ) → (o ≡ n → ⊥)
-    → slice_get (controls_with_ended o e v).outgoing n ≡ slice_get v.outgoing n
-ended_there o None v n ne = refl
-ended_there o (Some e) v n ne = change-there o n (outgoing_after_ended e) v.outgoing ne
-
-lost_there : (n o p : ℕ) (v : Controls) → (o ≡ p → ⊥)
-    → slice_get (controls_after_losses n o v).outgoing p ≡ slice_get v.outgoing p
-lost_there zero o p v ne = refl
-lost_there (suc n) o p v ne =
-    lost_there n o p (controls_after_lost o v) ne ∙ change-there o p outgoing_after_lost v.outgoing ne
-
 down_rouses : (setup : Setup) (s : State) (o m p : ℕ)
     → becomes_due s (steps.OutstationDown o m) (after setup s (steps.OutstationDown o m)) p ≡ true
     → is_among p (effects_of setup s (steps.OutstationDown o m)).due_outstations ≡ true
@@ -115,7 +104,7 @@ down_rouses setup s o m p comes = elim (cases_eq o p) [
       (is_poll_due_of moment (slice_get w.outgoing p) (slice_get ms p)) comes))
   | inr ne ↦ none_due moment (slice_get s.controls.outgoing p) (slice_get w.outgoing p)
       (slice_get s.outstations p) (slice_get ms p) _
-      (lost_there places o p v ne ∙ ended_there o (ended_lost (slice_get s.outstations o)) s.controls p ne)
+      (losses_there places o v p ne ∙ ended_there o (ended_lost (slice_get s.outstations o)) s.controls p ne)
       (change-there o p (λ (x : Master). master_down x.poll) s.outstations ne) comes
 ]
   where
