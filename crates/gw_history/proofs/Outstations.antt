@@ -78,7 +78,7 @@ outstation_down setup past o m r s single tied =
 -- ---- Poll
 
 -- what becomes of its master
-abbrev master_after_poll : ℕ → ℕ → Option Order → Master → Master
+abbrev pub master_after_poll : ℕ → ℕ → Option Order → Master → Master
 master_after_poll moment wall None x = master_after_next moment wall x
 master_after_poll moment wall (Some order) x = master_after_order moment order x
 

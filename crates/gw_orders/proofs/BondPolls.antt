@@ -17,7 +17,7 @@ use Rattle.dnp_master.specs.declared.exchange.Exchange.{Exchange}
 use Rattle.dnp_master.specs.declared.exchange.Exchange.TheVariants.{Idle, Waiting, Selected}
 use Rattle.dnp_master.specs.declared.task.Task.{Task}
 use Rattle.dnp_master.specs.declared.task.Task.TheVariants.{ClearRestart, WriteTime, RecordTime, Disable, Integrity, Enable, EventPoll, Command}
-use Rattle.dnp_master.specs.Master.{Master, first_task, if_due, is_event_poll_due, is_integrity_due, is_ready, master_after_given, master_after_next, master_after_order, master_asking, order_of, request_ordered, task_given, task_request, tasks_due, time_due}
+use Rattle.dnp_master.specs.Master.{Master, first_task, if_due, is_event_poll_due, is_integrity_due, is_ready, master_after_given, master_after_order, master_asking, order_of, request_ordered, task_given, task_request, tasks_due, time_due}
 use Rattle.gw_control.specs.declared.accepted.Accepted.{Accepted}
 use Rattle.gw_control.specs.declared.accepted.UnderWay.{UnderWay}
 use Rattle.gw_control.specs.Controls.{order_at}
@@ -25,6 +25,7 @@ use Rattle.gw_control.specs.Moves.{one_if}
 use Rattle.gw_control.specs.Orders.{Outgoing, outgoing_after_taking, IsInOrder}
 use Rattle.gw_steps.specs.Controls.{order_for}
 use Rattle.gw_steps.specs.Steps.{request_polled}
+use Rattle.gw_history.proofs.Outstations.{master_after_poll}
 use Rattle.gw_orders.specs.Executes.{Execute, numbered}
 use Rattle.gw_orders.specs.Marks.{Mark, Asked, is_number, names}
 use Rattle.gw_orders.specs.Bonds.{AsksAsOrdered, IsBound, IsBoundTo, is_control_request}
@@ -311,10 +312,6 @@ next_polled t o moment count m q tasks up in_order no_order k (Selected order) g
 
 -- ---- all polls
 
-abbrev pub master_polled : ℕ → ℕ → Option Order → Master → Master
-master_polled moment wall None m = master_after_next moment wall m
-master_polled moment wall (Some order) m = master_after_order moment order m
-
 abbrev pub outgoing_polled : Option Order → Option Outgoing → Option Outgoing
 outgoing_polled None q = q
 outgoing_polled (Some order) q = option_map outgoing_after_taking q
@@ -333,7 +330,7 @@ take_at t o moment count m (Some q) order up e in_order k =
 
 pub polled : (t : Story) (o moment wall count : ℕ) (m : Master) (q : Option Outgoing) (due : Option Order)
     → order_for (Some m) q ≡ due → m.up ≡ true → InOrderAt count q → Holds t o (Some m) q
-    → Polled t o q (request_polled due moment wall m) (master_polled moment wall due m) (outgoing_polled due q)
+    → Polled t o q (request_polled due moment wall m) (master_after_poll moment wall due m) (outgoing_polled due q)
 polled t o moment wall count m q (Some order) e up in_order k =
     take_at t o moment count m q order up (if_so (is_ready m) (order_at q) order e).1 in_order k
 polled t o moment wall count m q None e up in_order k =

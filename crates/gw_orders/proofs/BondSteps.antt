@@ -34,13 +34,14 @@ use Rattle.gw_steps.specs.Runs.{Entry, state_after}
 use Rattle.gw_steps.proofs.Inversion.{answered, who_is_up, who_is_down}
 use Rattle.gw_steps.proofs.Running.{entry}
 use Rattle.gw_history.proofs.Ended.{ended_count, ended_there}
+use Rattle.gw_history.proofs.Outstations.{master_after_poll}
 use Rattle.gw_orders.specs.Executes.{numbered}
 use Rattle.gw_orders.specs.Marks.{is_end, given_by, mark_answered, marks}
 use Rattle.gw_orders.specs.Bonds.{HasShortIndex, IsBound}
 use Rattle.gw_orders.proofs.Held.{held, held_at, held_changed, held_taking, held_within, waiting_at, under_way_at}
 use Rattle.gw_orders.proofs.Story.{Holds, Waits, Story, Tied, alike_self, story, GoesOn}
 use Rattle.gw_orders.proofs.Moves.{AlikeBut, Moves, in_order_at, moved}
-use Rattle.gw_orders.proofs.BondPolls.{Polled, outgoing_polled, master_polled, polled, story_polled, with_outstation}
+use Rattle.gw_orders.proofs.BondPolls.{Polled, outgoing_polled, polled, story_polled, with_outstation}
 use Rattle.gw_orders.proofs.Ends.{ended_here, ended_waiting, controls_lost, idle_holds, lost_count, lost_holds, lost_there, tied_closes, tied_end, tied_late}
 use Rattle.gw_orders.proofs.Tells.{TellsAt, failure_tells}
 use Rattle.gw_orders.proofs.BondsTold.{Ending, Leads, ToldTied, closes_fewer, end_fewer, ending_both, late_end, order_ends, told_ending, told_fewer, told_kept, waiting_fail}
@@ -174,7 +175,7 @@ given_of_poll o m wall (Some request) = refl
 
 polled_moves : (t new : Story) (s : State) (moment o wall : ℕ) (m : Master) (due : Option Order)
     → slice_get s.outstations o ≡ Some m → new.executes ≡ t.executes
-    → Moves t new o (slice_get s.controls.outgoing o) (Some (master_polled moment wall due m))
+    → Moves t new o (slice_get s.controls.outgoing o) (Some (master_after_poll moment wall due m))
     (outgoing_polled due (slice_get s.controls.outgoing o))
     → Tied t s.outstations s.controls
     → Tied new (parts_after_poll s moment o wall due).outstations (parts_after_poll s moment o wall due).controls
@@ -218,7 +219,7 @@ poll_taken setup past o m wall s x sound at up tied =
     let given : Option Request = request_polled due moment wall x in
     let held : Holds t o (Some x) q = subst (λ (y : Option Master). Holds t o y q) at (tied.places o) in
     let next : order_for (Some x) q ≡ due = ap (λ (y : Option Master). order_for y q) (sym at) in
-    let k : Polled t o q given (master_polled moment wall due x) (outgoing_polled due q) =
+    let k : Polled t o q given (master_after_poll moment wall due x) (outgoing_polled due q) =
     polled t o moment wall s.controls.ordered x q due next up
     (in_order_at s.controls.ordered s.controls.outgoing o sound.orders) held in
     record {

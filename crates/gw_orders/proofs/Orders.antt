@@ -128,7 +128,7 @@ act_in control act (Some y) e =
     ap Some (ap (λ (i : Intent). i.act) (some_is (intent_of control y) (intent_of control act) e))
 
 -- the execute of a command for a control
-abbrev execute_for : AskedCommand → Control → Execute
+abbrev pub execute_for : AskedCommand → Control → Execute
 execute_for a control = record { client = a.client; control = control; command = a.command }
 
 waits_new : (t : Story) (a : AskedCommand) (control : Control) (act : Act) (count o : ℕ) (standing : Option Selection)
@@ -241,13 +241,13 @@ acted t masters a found standing v (Some act) short e tied =
     record { tied = new.tied; told = new.told }
 
 -- what is said of a command for this control, and what becomes of it
-abbrev said_for : AskedCommand → ℕ × Control → Option Selection → Controls → Bool → Bool → Answer
+abbrev pub said_for : AskedCommand → ℕ × Control → Option Selection → Controls → Bool → Bool → Answer
 said_for a found standing v deactivation select =
     cond deactivation (confirmed_if (is_own a standing))
     (cond select (confirmed_if (is_selectable a found.1 standing))
     (answer_to_act v.ordered (act_accepted a found.1 standing v)))
 
-abbrev after_for : AskedCommand → ℕ × Control → Option Selection → Controls → Bool → Bool → Controls
+abbrev pub after_for : AskedCommand → ℕ × Control → Option Selection → Controls → Bool → Bool → Controls
 after_for a found standing v deactivation select =
     cond deactivation (controls_unselecting a found.0 v)
     (cond select (cond (is_selectable a found.1 standing) (controls_selecting a found.0 v) v)

@@ -9,7 +9,6 @@ use Rattle.gw_entries.specs.declared.control.Control.{Control}
 use Rattle.gw_map.specs.Settings.{Setup}
 use Rattle.gw_picture.proofs.Lists.{change-here, change-there}
 use Rattle.gw_control.specs.declared.accepted.Accepted.{Accepted}
-use Rattle.gw_control.specs.declared.answer.Answer.{Answer}
 use Rattle.gw_control.specs.declared.asked.AskedCommand.{AskedCommand}
 use Rattle.gw_control.specs.declared.selection.Selection.{Selection}
 use Rattle.gw_control.specs.Controls.{Controls, accepted_by, act_accepted, answer_at, answer_to_act, confirmed_if, controls_after_at, controls_ordering, controls_selecting, controls_unselecting, is_deactivation, is_full_at, is_selectable, standing_at}
@@ -19,6 +18,7 @@ use Rattle.gw_control.proofs.Keeps.{accepted}
 use Rattle.gw_orders.specs.Executes.{Execute, execute_answered}
 use Rattle.gw_orders.specs.Pending.{order_made}
 use Rattle.gw_orders.proofs.Rows.{row_waiting, rows, rows_with}
+use Rattle.gw_orders.proofs.Orders.{after_for, execute_for, said_for}
 
 -- an execute that is accepted, or none, leaves orders so
 abbrev pub Makes : ℕ → Option Execute → Controls → Controls → Type 0
@@ -30,9 +30,6 @@ same_orders o v after same =
     ap (λ (qs : List Outgoing). rows (slice_get qs o)) same ∙ sym (append-nil (rows (slice_get v.outgoing o)))
 
 -- ---- an order more
-
-abbrev execute_for : AskedCommand → Control → Execute
-execute_for a control = record { client = a.client; control = control; command = a.command }
 
 has_place : (q : Option Outgoing) (x : Accepted) → is_full_at q ≡ false
     → rows (option_map (outgoing_with x) q) ≡ rows q ++ row_waiting x ∷ []
@@ -70,18 +67,6 @@ acted : (o : ℕ) (a : AskedCommand) (found : ℕ × Control) (standing : Option
 acted o a found standing v None e = same_orders o v (controls_unselecting a found.0 v) refl
 acted o a found standing v (Some act) e =
     ordered o a found.1 act (controls_unselecting a found.0 v) (accepted a found.1 standing v act e).place
-
-abbrev said_for : AskedCommand → ℕ × Control → Option Selection → Controls → Bool → Bool → Answer
-said_for a found standing v deactivation select =
-    cond deactivation (confirmed_if (is_own a standing))
-    (cond select (confirmed_if (is_selectable a found.1 standing))
-    (answer_to_act v.ordered (act_accepted a found.1 standing v)))
-
-abbrev after_for : AskedCommand → ℕ × Control → Option Selection → Controls → Bool → Bool → Controls
-after_for a found standing v deactivation select =
-    cond deactivation (controls_unselecting a found.0 v)
-    (cond select (cond (is_selectable a found.1 standing) (controls_selecting a found.0 v) v)
-    (controls_ordering a found.1 (act_accepted a found.1 standing v) (controls_unselecting a found.0 v)))
 
 still_there : (a : AskedCommand) (position : ℕ) (v : Controls) (selectable : Bool)
     → (cond selectable (controls_selecting a position v) v).outgoing ≡ v.outgoing

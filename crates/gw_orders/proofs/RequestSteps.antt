@@ -11,18 +11,13 @@ use Rattle.gw_map.specs.Settings.{Setup}
 use Rattle.gw_picture.proofs.Lists.{change-here, change-there, map-get, some_is}
 use Rattle.dnp_app.specs.declared.operation.Operation.TheVariants.{Operate}
 use Rattle.dnp_app.specs.declared.request.Request.{Request}
-use Rattle.dnp_app.specs.Control.{confirm_of}
 use Rattle.dnp_app.specs.Response.{Fragment, is_unsolicited}
-use Rattle.dnp_master.specs.declared.exchange.Awaited.{Awaited}
 use Rattle.dnp_master.specs.declared.exchange.Exchange.{Exchange}
 use Rattle.dnp_master.specs.declared.exchange.Exchange.TheVariants.{Idle, Waiting, Selected}
 use Rattle.dnp_master.specs.declared.task.Task.{Task}
 use Rattle.dnp_master.specs.declared.task.Task.TheVariants.{Command}
-use Rattle.dnp_master.specs.declared.verdict.Verdict.{Verdict}
-use Rattle.dnp_master.specs.declared.verdict.Verdict.TheVariants.{Accepted, Ignored}
-use Rattle.dnp_master.specs.declared.verdict.Ignored.TheVariants.{WrongFirst, WrongSequence}
-use Rattle.dnp_master.specs.Fragments.{accepts, control_in, ended_with, is_acceptance, is_begun_rightly, master_after_accepted, master_after_answer, master_after_fragment, verdict_of_answer}
-use Rattle.dnp_master.specs.Master.{Master, due_unanswered, first_task, is_late, master_after_given, master_after_next, master_after_order, master_after_tick, master_after_up, master_down, master_with_exchange_after, order_task, task_given, task_request, tasks_due}
+use Rattle.dnp_master.specs.Fragments.{accepts, control_in, is_acceptance, is_begun_rightly, master_after_accepted, master_after_answer, master_after_fragment, verdict_of_answer}
+use Rattle.dnp_master.specs.Master.{Master, due_unanswered, first_task, is_late, master_after_given, master_after_tick, master_after_up, master_down, master_with_exchange_after, order_task, task_given, task_request, tasks_due}
 use Rattle.gw_steps.specs.declared.step.Step.{Step}
 use Rattle.gw_steps.specs.declared.step.Step.TheVariants as steps
 use Rattle.gw_steps.specs.declared.step.Reply.{Reply}
@@ -37,7 +32,7 @@ use Rattle.gw_steps.proofs.Running.{entry}
 use Rattle.gw_history.specs.Accepted.{AskedRequest, asked_at, asked_of, is_accepted, poll_at}
 use Rattle.gw_history.proofs.Masters.{AwaitsAs, MasterIs, MasterTied, same_accepted}
 use Rattle.gw_history.proofs.Tied.{Tied, told_moment}
-use Rattle.gw_history.proofs.Outstations.{polled_outstations}
+use Rattle.gw_history.proofs.Outstations.{master_after_poll, polled_outstations}
 use Rattle.gw_orders.specs.Marks.{request_of}
 use Rattle.gw_orders.specs.Pending.{is_late_at}
 use Rattle.gw_orders.specs.Selections.{moment_at}
@@ -45,6 +40,7 @@ use Rattle.gw_orders.specs.Talk.{Turn, Up, Accepts, GivesUp, talk, talk_giving}
 use Rattle.gw_orders.specs.Requests.{Due, in_rank}
 use Rattle.gw_orders.proofs.RequestTurns.{IsRecordedAt, IsTold, SentAs, told_answer, told_asking, told_down, told_given_up, told_unsolicited, told_up}
 use Rattle.gw_orders.proofs.RequestRanked.{Fits, first_fits}
+use Rattle.gw_orders.proofs.Verdicts.{answer_verdict}
 
 -- ---- the tie
 
@@ -113,11 +109,6 @@ outstation_down setup past o m r s told =
     told
 
 -- ---- Poll
-
--- what becomes of a master, where this order is due for it
-abbrev master_after_poll : ℕ → ℕ → Option Order → Master → Master
-master_after_poll moment wall None x = master_after_next moment wall x
-master_after_poll moment wall (Some order) x = master_after_order moment order x
 
 request_asked : (given : Option Request) → request_of (reply_asking given) ≡ given
 request_asked None = refl
@@ -208,12 +199,6 @@ poll setup past o m wall r s e tied told =
     (λ q ne. poll_there setup past o q m wall (reply_asking given) ne) own told p))
 
 -- ---- Fragment
-
-abbrev answer_verdict : Fragment → Awaited → Bool → Bool → Verdict
-answer_verdict f w in_sequence rightly =
-    cond in_sequence
-    (cond rightly (Accepted (confirm_of f.octets) (control_in f).fin (ended_with w.task f)) (Ignored WrongFirst))
-    (Ignored WrongSequence)
 
 answer_told : (moment : ℕ) (f : Fragment) (m : Master) (ts : List Turn) (ex : Exchange) → is_unsolicited f ≡ false
     → is_acceptance (verdict_of_answer ex f) ≡ true → SentAs ex ts → IsTold m ts

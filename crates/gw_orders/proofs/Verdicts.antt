@@ -261,7 +261,8 @@ abbrev pub Judged : Story → ℕ → Fragment → Verdict → Master → Option
 Judged t o f v new q =
     Answers t (story_ended (is_end (replies.Verdict v)) o f.octets t) o new (ended_in v) q
 
-abbrev answer_verdict : Fragment → Awaited → Bool → Bool → Verdict
+-- by whether it is the fragment that is awaited
+abbrev pub answer_verdict : Fragment → Awaited → Bool → Bool → Verdict
 answer_verdict f w in_sequence rightly =
     cond in_sequence
     (cond rightly (Accepted (confirm_of f.octets) (control_in f).fin (ended_with w.task f)) (Ignored WrongFirst))
