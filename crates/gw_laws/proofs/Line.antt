@@ -41,7 +41,7 @@ use Rattle.gw_station.specs.Frames.{close_of, judged_asdu, client_taking, client
 use Rattle.gw_station.specs.Pump.{line as line_in, news_front, together, part_octets, client_with_sent}
 use Rattle.gw_station.specs.Sound.{CanSend}
 use Rattle.gw_station.proofs.All.{all-drop}
-use Rattle.gw_station.proofs.Front.{split_anywhere, drop_none, part_first, parts_same, parts_within}
+use Rattle.gw_station.proofs.Front.{line_of, split_anywhere, drop_none, part_first, parts_same, parts_within}
 use Rattle.gw_steps.specs.Controls.{client_told_all}
 use Rattle.gw_steps.specs.Steps.{client_answered}
 use Rattle.gw_steps.specs.Said.{ApduMeaning}
@@ -377,14 +377,9 @@ answer_is_first a b e = ap value e
     value (Some (sendings.Answer z)) = z
     value _ = a
 
-abbrev front : List AsduAnswer → ℕ → List Observation → List OwnAsdu → List Sending
-front answers older queue rest =
-    map sendings.Answer answers ++ (map sendings.News (take older queue)
-    ++ (map sendings.Part rest ++ map sendings.News (drop older queue)))
-
 -- no answer is behind news or a part
 news_before : (older : ℕ) (queue : List Observation) (rest : List OwnAsdu) (answer : AsduAnswer)
-    → slice_get (front [] older queue rest) 0 ≡ Some (sendings.Answer answer) → ⊥
+    → slice_get (line_of [] older queue rest) 0 ≡ Some (sendings.Answer answer) → ⊥
 news_before zero queue (part ∷ rest) answer e = absurd cc
 news_before zero (y ∷ queue) [] answer e = absurd cc
 news_before zero [] [] answer e = absurd cc
@@ -397,7 +392,7 @@ answer_first : (k : Client) (answer : AsduAnswer) → slice_get (line_in k) 0 �
 answer_first k answer e = go k.answers e
   where
     go : (answers : List AsduAnswer)
-        → slice_get (front answers k.older k.queue k.rest) 0 ≡ Some (sendings.Answer answer)
+        → slice_get (line_of answers k.older k.queue k.rest) 0 ≡ Some (sendings.Answer answer)
         → (more : List AsduAnswer) × (answers ≡ answer ∷ more)
     go [] e = absurd (news_before k.older k.queue k.rest answer e)
     go (a ∷ answers) e = (answers, ap (λ (x : AsduAnswer). x ∷ answers) (answer_is_first a answer e))

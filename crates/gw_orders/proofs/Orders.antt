@@ -29,6 +29,7 @@ use Rattle.gw_control.proofs.Keeps.{accepted}
 use Rattle.gw_station.specs.declared.event.Why.{Why}
 use Rattle.gw_station.specs.Client.{Client}
 use Rattle.gw_station.specs.Frames.{close_of, command_given, command_in, event_by}
+use Rattle.gw_station.proofs.All.{all-append}
 use Rattle.gw_steps.specs.Controls.{asked_by, controls_after_event, controls_after_taken}
 use Rattle.gw_steps.specs.State.{State}
 use Rattle.gw_steps.specs.Steps.{command_of, controls_after_frame}
@@ -105,16 +106,11 @@ bonded_more t x n so_far = by (n == suc (length t.executes)) refl
 
 -- ---- an order more
 
-all_with : {A : Type 0} (P : A → Type 0) (xs : List A) (x : A) → AllByRecursion P xs → P x
-    → AllByRecursion P (xs ++ x ∷ [])
-all_with P [] x all here = (here, tt)
-all_with P (y ∷ ys) x all here = (all.0, all_with P ys x all.1 here)
-
 pushed : (t : Story) (o : ℕ) (m : Option Master) (q : Option Outgoing) (x : Accepted) → Waits t o x → Holds t o m q
     → Holds t o m (option_map (outgoing_with x) q)
 pushed t o m None x waits k = k
 pushed t o m (Some q) x waits k = record {
-  waiting = all_with (Waits t o) q.waiting x k.waiting waits;
+  waiting = all-append (Waits t o) q.waiting (x ∷ []) k.waiting (waits, tt);
   going = k.going;
   small = k.small;
   down = k.down;
