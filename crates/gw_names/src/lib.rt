@@ -1,10 +1,9 @@
 //! What the points, the controls and the outstations of a site are called.
 #![tactic(auto)]
 
-mod behind;
 mod front;
 mod names;
 
-pub use behind::Behind;
 pub use front::{wants_apostrophe, without_apostrophe};
+pub use gw_text::Behind;
 pub use names::Names;

@@ -1,6 +1,7 @@
 //! The sheet as an HTML document, which is printed on A4.
 
 use crate::form::{Cell, Column, Form, fill};
+use gw_text::Escaped;
 use std::alloc::Global;
 use std::fmt;
 use std::io::{self, Write};
@@ -107,7 +108,7 @@ impl<'a, W: Write> HtmlForm<'a, W> {
         end: &str,
     ) -> io::Result<()> {
         fill(&mut self.shown, shown)?;
-        let text = Html(self.shown.as_str());
+        let text = Escaped::html_words(self.shown.as_str());
         writeln!(self.writer, "{start}{text}{end}")
     }
 
@@ -209,24 +210,5 @@ impl<'a, W: Write> Form for HtmlForm<'a, W> {
     fn end(&mut self) -> io::Result<()> {
         self.go_on(Block::Nothing)?;
         self.writer.write_all(b"</section>\n</body>\n</html>\n")
-    }
-}
-
-/// A text as HTML shows it.
-#[derive(Clone, Copy)]
-struct Html<'a>(&'a str);
-
-impl<'a> fmt::Display for Html<'a> {
-    fn fmt<W: fmt::Write>(&self, f: &mut fmt::Formatter<W>) -> fmt::Result {
-        for character in self.0.chars() {
-            match character {
-                '&' => f.write_str("&amp;")?,
-                '<' => f.write_str("&lt;")?,
-                '>' => f.write_str("&gt;")?,
-                '"' => f.write_str("&quot;")?,
-                _ => f.write_char(character)?,
-            }
-        }
-        Ok(())
     }
 }

@@ -82,17 +82,26 @@ impl ClientFigure {
     }
 }
 
-/// The figures of the places.
-#[derive(Clone, Copy)]
-pub struct ClientFamilies<'a>(pub &'a [ClientStatus]);
+/// Writes the figures of the places.
+pub fn write_clients<W: fmt::Write>(
+    f: &mut fmt::Formatter<W>,
+    clients: &[ClientStatus],
+) -> fmt::Result {
+    write_families(f, clients)?;
+    write_addresses(f, clients)?;
+    write_closes(f, clients)?;
+    write_refusals(f, clients)
+}
 
-impl<'a> fmt::Display for ClientFamilies<'a> {
-    fn fmt<W: fmt::Write>(&self, f: &mut fmt::Formatter<W>) -> fmt::Result {
-        for (what, family) in CLIENT_FIGURES {
-            write_family(f, *what, family, self.0)?;
-        }
-        Ok(())
+/// Writes each family that has figures of places alone.
+fn write_families<W: fmt::Write>(
+    f: &mut fmt::Formatter<W>,
+    clients: &[ClientStatus],
+) -> fmt::Result {
+    for (what, family) in CLIENT_FIGURES {
+        write_family(f, *what, family, clients)?;
     }
+    Ok(())
 }
 
 /// Writes a family of figures, one for each place that has one.
@@ -102,7 +111,7 @@ fn write_family<W: fmt::Write>(
     family: &Family,
     clients: &[ClientStatus],
 ) -> fmt::Result {
-    write!(f, "{family}")?;
+    fmt::Display::fmt(family, f)?;
     for (number, client) in clients.iter().enumerate() {
         if let Some(figure) = what.figure(client) {
             write_figure(f, family.name, number, figure)?;
@@ -121,118 +130,90 @@ fn write_figure<W: fmt::Write>(
     writeln!(f, "{name}{{client=\"{number}\"}} {figure}")
 }
 
-/// Who is connected at each place. The address, which changes with each connection, is a label of this family alone.
-#[derive(Clone, Copy)]
-pub struct Addresses<'a>(pub &'a [ClientStatus]);
-
-impl<'a> fmt::Display for Addresses<'a> {
-    fn fmt<W: fmt::Write>(&self, f: &mut fmt::Formatter<W>) -> fmt::Result {
-        f.write_str(
-            "# HELP gateway_client_info Who is connected at this place.\n\
-            # TYPE gateway_client_info gauge\n",
-        )?;
-        for (number, client) in self.0.iter().enumerate() {
-            write_address(f, number, client.address)?;
+/// Writes who is connected at each place. The address, which changes with each connection, is a label of this family alone.
+fn write_addresses<W: fmt::Write>(
+    f: &mut fmt::Formatter<W>,
+    clients: &[ClientStatus],
+) -> fmt::Result {
+    f.write_str(
+        "# HELP gateway_client_info Who is connected at this place.\n\
+        # TYPE gateway_client_info gauge\n",
+    )?;
+    for (number, client) in clients.iter().enumerate() {
+        if let Some(address) = client.address {
+            write_address(f, number, address)?;
         }
-        Ok(())
     }
+    Ok(())
 }
 
-/// Writes who is connected at a place, if somebody is.
+/// Writes who is connected at a place.
 fn write_address<W: fmt::Write>(
     f: &mut fmt::Formatter<W>,
     number: usize,
-    address: Option<SocketAddr>,
+    address: SocketAddr,
 ) -> fmt::Result {
-    match address {
-        Some(address) => writeln!(
-            f,
-            "gateway_client_info{{client=\"{number}\",address=\"{address}\"}} 1"
-        ),
-        None => Ok(()),
-    }
+    writeln!(
+        f,
+        "gateway_client_info{{client=\"{number}\",address=\"{address}\"}} 1"
+    )
 }
 
-/// Why connections of each place ended.
-#[derive(Clone, Copy)]
-pub struct CloseCauses<'a>(pub &'a [ClientStatus]);
+/// Why connections of places ended.
+const CLOSES: Family = Family {
+    kind: Kind::Counter,
+    name: "gateway_client_closes_total",
+    help: "Connections of this place that ended, by cause.",
+};
 
-impl<'a> fmt::Display for CloseCauses<'a> {
-    fn fmt<W: fmt::Write>(&self, f: &mut fmt::Formatter<W>) -> fmt::Result {
-        f.write_str(
-            "# HELP gateway_client_closes_total Connections of this place that ended, by cause.\n\
-            # TYPE gateway_client_closes_total counter\n",
-        )?;
-        for (number, client) in self.0.iter().enumerate() {
-            write_closes(f, number, &client.closes.by_cause())?;
-        }
-        Ok(())
-    }
-}
+/// Why commands from places were refused.
+const REFUSALS: Family = Family {
+    kind: Kind::Counter,
+    name: "gateway_client_refused_commands_total",
+    help: "Commands for controls from this place that were refused, by cause.",
+};
 
-/// Writes why connections of a place ended.
-fn write_closes<W: fmt::Write>(
-    f: &mut fmt::Formatter<W>,
-    number: usize,
-    closes: &[(&'static str, u64)],
-) -> fmt::Result {
-    for (cause, count) in closes {
-        write_close(f, number, cause, *count)?;
+/// Writes why connections of each place ended.
+fn write_closes<W: fmt::Write>(f: &mut fmt::Formatter<W>, clients: &[ClientStatus]) -> fmt::Result {
+    fmt::Display::fmt(&CLOSES, f)?;
+    for (number, client) in clients.iter().enumerate() {
+        write_causes(f, CLOSES.name, number, &client.closes.by_cause())?;
     }
     Ok(())
 }
 
-/// Writes how many connections of a place ended for a cause.
-fn write_close<W: fmt::Write>(
-    f: &mut fmt::Formatter<W>,
-    number: usize,
-    cause: &str,
-    count: u64,
-) -> fmt::Result {
-    writeln!(
-        f,
-        "gateway_client_closes_total{{client=\"{number}\",cause=\"{cause}\"}} {count}"
-    )
-}
-
-/// Why commands from each place were refused.
-#[derive(Clone, Copy)]
-pub struct RefusalCauses<'a>(pub &'a [ClientStatus]);
-
-impl<'a> fmt::Display for RefusalCauses<'a> {
-    fn fmt<W: fmt::Write>(&self, f: &mut fmt::Formatter<W>) -> fmt::Result {
-        f.write_str(
-            "# HELP gateway_client_refused_commands_total Commands for controls from this place that were refused, by cause.\n\
-            # TYPE gateway_client_refused_commands_total counter\n",
-        )?;
-        for (number, client) in self.0.iter().enumerate() {
-            write_refusals(f, number, &client.refusals.by_cause())?;
-        }
-        Ok(())
-    }
-}
-
-/// Writes why commands from a place were refused.
+/// Writes why commands from each place were refused.
 fn write_refusals<W: fmt::Write>(
     f: &mut fmt::Formatter<W>,
-    number: usize,
-    refusals: &[(&'static str, u64)],
+    clients: &[ClientStatus],
 ) -> fmt::Result {
-    for (cause, count) in refusals {
-        write_refusal(f, number, cause, *count)?;
+    fmt::Display::fmt(&REFUSALS, f)?;
+    for (number, client) in clients.iter().enumerate() {
+        write_causes(f, REFUSALS.name, number, &client.refusals.by_cause())?;
     }
     Ok(())
 }
 
-/// Writes how many commands from a place were refused for a cause.
-fn write_refusal<W: fmt::Write>(
+/// Writes the figures of a place in the family of a name, one for each cause.
+fn write_causes<W: fmt::Write>(
     f: &mut fmt::Formatter<W>,
+    name: &str,
+    number: usize,
+    causes: &[(&'static str, u64)],
+) -> fmt::Result {
+    for (cause, count) in causes {
+        write_cause(f, name, number, cause, *count)?;
+    }
+    Ok(())
+}
+
+/// Writes how often a cause was that of a place.
+fn write_cause<W: fmt::Write>(
+    f: &mut fmt::Formatter<W>,
+    name: &str,
     number: usize,
     cause: &str,
     count: u64,
 ) -> fmt::Result {
-    writeln!(
-        f,
-        "gateway_client_refused_commands_total{{client=\"{number}\",cause=\"{cause}\"}} {count}"
-    )
+    writeln!(f, "{name}{{client=\"{number}\",cause=\"{cause}\"}} {count}")
 }

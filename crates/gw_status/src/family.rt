@@ -55,8 +55,13 @@ impl Figure {
 impl fmt::Display for Figure {
     fn fmt<W: fmt::Write>(&self, f: &mut fmt::Formatter<W>) -> fmt::Result {
         match *self {
-            Figure::Count(count) => write!(f, "{count}"),
-            Figure::Time(time) => write!(f, "{}.{:03}", time / 1000, time % 1000),
+            Figure::Count(count) => fmt::Display::fmt(&count, f),
+            Figure::Time(time) => write_seconds(f, time),
         }
     }
+}
+
+/// Writes milliseconds as seconds.
+fn write_seconds<W: fmt::Write>(f: &mut fmt::Formatter<W>, time: u64) -> fmt::Result {
+    write!(f, "{}.{:03}", time / 1000, time % 1000)
 }

@@ -60,24 +60,19 @@ pub fn ask_for_time(indications: u16) -> bool {
     indications & NEED_TIME != 0
 }
 
-/// The names of those that are set, as `NEED_TIME, RESTART`; `none` where none is.
-#[derive(Clone, Copy)]
-pub struct Names(pub u16);
-
-impl fmt::Display for Names {
-    fn fmt<W: fmt::Write>(&self, f: &mut fmt::Formatter<W>) -> fmt::Result {
-        if self.0 == 0 {
-            return f.write_str("none");
-        }
-        let mut separator = "";
-        for bit in 0..16u32 {
-            if is_set(self.0, bit) {
-                write_name(f, separator, name_of(bit))?;
-                separator = ", ";
-            }
-        }
-        Ok(())
+/// Writes the names of those that are set, as `NEED_TIME, RESTART`; `none` where none is.
+pub fn write_names<W: fmt::Write>(f: &mut fmt::Formatter<W>, indications: u16) -> fmt::Result {
+    if indications == 0 {
+        return f.write_str("none");
     }
+    let mut separator = "";
+    for bit in 0..16u32 {
+        if is_set(indications, bit) {
+            write_name(f, separator, name_of(bit))?;
+            separator = ", ";
+        }
+    }
+    Ok(())
 }
 
 /// Writes a name behind those before it.
@@ -86,5 +81,6 @@ fn write_name<W: fmt::Write>(
     separator: &str,
     name: &str,
 ) -> fmt::Result {
-    write!(f, "{separator}{name}")
+    f.write_str(separator)?;
+    f.write_str(name)
 }

@@ -3,8 +3,8 @@
 #![tactic(auto)]
 
 mod client_figure;
-mod escaped;
 mod family;
+mod gateway_figure;
 mod indications;
 mod metrics;
 mod outstation_figure;
@@ -15,10 +15,10 @@ mod status;
 mod time;
 mod verdict;
 
-pub use escaped::Escaped;
+pub use gw_text::Escaped;
 pub use indications::tell_of_trouble;
 pub use metrics::Metrics;
-pub use page::{Digest, Page};
+pub use page::{Digest, Page, SiteName};
 pub use state::{ClientState, OutstationState};
 pub use status::{
     ClientStatus, Closes, Identity, LeftOut, OrderStatus, OutstationStatus, PointStatus,

@@ -1,14 +1,14 @@
 //! The figures of an outstation.
 
-use crate::escaped::Escaped;
 use crate::family::{Family, Figure, Kind};
 use crate::indications::{MEANINGS, is_set, name_of};
 use crate::status::OutstationStatus;
+use gw_text::Escaped;
 use std::fmt;
 
 /// What there is a figure of.
 #[derive(Clone, Copy)]
-pub enum OutstationFigure {
+enum OutstationFigure {
     Connected,
     ConnectedSince,
     Answered,
@@ -31,7 +31,7 @@ pub enum OutstationFigure {
 }
 
 /// The figures of the connection and of what came on it, in the order in which they are told.
-pub const OUTSTATION_FIGURES: &[(OutstationFigure, Family)] = &[
+const OUTSTATION_FIGURES: &[(OutstationFigure, Family)] = &[
     (
         OutstationFigure::Connected,
         Family {
@@ -147,7 +147,7 @@ pub const OUTSTATION_FIGURES: &[(OutstationFigure, Family)] = &[
 ];
 
 /// Those of the orders for it, likewise.
-pub const ORDER_FIGURES: &[(OutstationFigure, Family)] = &[
+const ORDER_FIGURES: &[(OutstationFigure, Family)] = &[
     (
         OutstationFigure::Accepted,
         Family {
@@ -222,20 +222,27 @@ impl OutstationFigure {
     }
 }
 
-/// Families of figures of outstations.
-#[derive(Clone, Copy)]
-pub struct OutstationFamilies<'a> {
-    pub families: &'static [(OutstationFigure, Family)],
-    pub outstations: &'a [OutstationStatus],
+/// Writes the figures of the outstations.
+pub fn write_outstations<W: fmt::Write>(
+    f: &mut fmt::Formatter<W>,
+    outstations: &[OutstationStatus],
+) -> fmt::Result {
+    write_families(f, OUTSTATION_FIGURES, outstations)?;
+    write_indications(f, outstations)?;
+    write_families(f, ORDER_FIGURES, outstations)?;
+    write_outcomes(f, outstations)
 }
 
-impl<'a> fmt::Display for OutstationFamilies<'a> {
-    fn fmt<W: fmt::Write>(&self, f: &mut fmt::Formatter<W>) -> fmt::Result {
-        for (what, family) in self.families {
-            write_family(f, *what, family, self.outstations)?;
-        }
-        Ok(())
+/// Writes families that have figures of outstations alone.
+fn write_families<W: fmt::Write>(
+    f: &mut fmt::Formatter<W>,
+    families: &[(OutstationFigure, Family)],
+    outstations: &[OutstationStatus],
+) -> fmt::Result {
+    for (what, family) in families {
+        write_family(f, *what, family, outstations)?;
     }
+    Ok(())
 }
 
 /// Writes a family of figures, one for each outstation that has one.
@@ -245,10 +252,10 @@ fn write_family<W: fmt::Write>(
     family: &Family,
     outstations: &[OutstationStatus],
 ) -> fmt::Result {
-    write!(f, "{family}")?;
+    fmt::Display::fmt(family, f)?;
     for (number, outstation) in outstations.iter().enumerate() {
         if let Some(figure) = what.figure(outstation) {
-            write_figure(f, family.name, number, outstation, figure)?;
+            write_figure(f, family.name, Labels { number, outstation }, figure)?;
         }
     }
     Ok(())
@@ -258,11 +265,9 @@ fn write_family<W: fmt::Write>(
 fn write_figure<W: fmt::Write>(
     f: &mut fmt::Formatter<W>,
     name: &str,
-    number: usize,
-    outstation: &OutstationStatus,
+    labels: Labels<'_>,
     figure: Figure,
 ) -> fmt::Result {
-    let labels = Labels { number, outstation };
     writeln!(f, "{name}{{{labels}}} {figure}")
 }
 
@@ -295,34 +300,31 @@ fn write_name<W: fmt::Write>(f: &mut fmt::Formatter<W>, name: Escaped<'_>) -> fm
     write!(f, ",name=\"{name}\"")
 }
 
-/// The internal indications of the outstations that answered, one by one.
-#[derive(Clone, Copy)]
-pub struct Indications<'a>(pub &'a [OutstationStatus]);
-
-impl<'a> fmt::Display for Indications<'a> {
-    fn fmt<W: fmt::Write>(&self, f: &mut fmt::Formatter<W>) -> fmt::Result {
-        f.write_str(
-            "# HELP gateway_outstation_indication Whether the last response had this internal indication.\n\
-            # TYPE gateway_outstation_indication gauge\n",
-        )?;
-        for (number, outstation) in self.0.iter().enumerate() {
-            if outstation.last_answer.is_some() {
-                write_indications(f, number, outstation)?;
-            }
+/// Writes the internal indications of the outstations that answered, one by one.
+fn write_indications<W: fmt::Write>(
+    f: &mut fmt::Formatter<W>,
+    outstations: &[OutstationStatus],
+) -> fmt::Result {
+    f.write_str(
+        "# HELP gateway_outstation_indication Whether the last response had this internal indication.\n\
+        # TYPE gateway_outstation_indication gauge\n",
+    )?;
+    for (number, outstation) in outstations.iter().enumerate() {
+        if outstation.last_answer.is_some() {
+            write_indications_of(f, Labels { number, outstation })?;
         }
-        Ok(())
     }
+    Ok(())
 }
 
 /// Writes the internal indications of an outstation.
-fn write_indications<W: fmt::Write>(
+fn write_indications_of<W: fmt::Write>(
     f: &mut fmt::Formatter<W>,
-    number: usize,
-    outstation: &OutstationStatus,
+    labels: Labels<'_>,
 ) -> fmt::Result {
     for bit in 0..MEANINGS {
-        let is_set = is_set(outstation.indications, bit) as u8;
-        write_indication(f, number, outstation, name_of(bit), is_set)?;
+        let is_set = is_set(labels.outstation.indications, bit);
+        write_indication(f, labels, name_of(bit), Figure::yes_or_no(is_set))?;
     }
     Ok(())
 }
@@ -330,43 +332,35 @@ fn write_indications<W: fmt::Write>(
 /// Writes whether an outstation has an internal indication.
 fn write_indication<W: fmt::Write>(
     f: &mut fmt::Formatter<W>,
-    number: usize,
-    outstation: &OutstationStatus,
+    labels: Labels<'_>,
     name: &str,
-    is_set: u8,
+    figure: Figure,
 ) -> fmt::Result {
-    let labels = Labels { number, outstation };
     writeln!(
         f,
-        "gateway_outstation_indication{{{labels},indication=\"{name}\"}} {is_set}"
+        "gateway_outstation_indication{{{labels},indication=\"{name}\"}} {figure}"
     )
 }
 
-/// How the orders of the outstations ended.
-#[derive(Clone, Copy)]
-pub struct OrderOutcomes<'a>(pub &'a [OutstationStatus]);
-
-impl<'a> fmt::Display for OrderOutcomes<'a> {
-    fn fmt<W: fmt::Write>(&self, f: &mut fmt::Formatter<W>) -> fmt::Result {
-        f.write_str(
-            "# HELP gateway_outstation_order_outcomes_total Orders for the outstation that ended, by how they did.\n\
-            # TYPE gateway_outstation_order_outcomes_total counter\n",
-        )?;
-        for (number, outstation) in self.0.iter().enumerate() {
-            write_outcomes(f, number, outstation)?;
-        }
-        Ok(())
+/// Writes how the orders of the outstations ended.
+fn write_outcomes<W: fmt::Write>(
+    f: &mut fmt::Formatter<W>,
+    outstations: &[OutstationStatus],
+) -> fmt::Result {
+    f.write_str(
+        "# HELP gateway_outstation_order_outcomes_total Orders for the outstation that ended, by how they did.\n\
+        # TYPE gateway_outstation_order_outcomes_total counter\n",
+    )?;
+    for (number, outstation) in outstations.iter().enumerate() {
+        write_outcomes_of(f, Labels { number, outstation })?;
     }
+    Ok(())
 }
 
 /// Writes how the orders of an outstation ended.
-fn write_outcomes<W: fmt::Write>(
-    f: &mut fmt::Formatter<W>,
-    number: usize,
-    outstation: &OutstationStatus,
-) -> fmt::Result {
-    for (outcome, count) in &outstation.orders.by_outcome() {
-        write_outcome(f, Labels { number, outstation }, outcome, *count)?;
+fn write_outcomes_of<W: fmt::Write>(f: &mut fmt::Formatter<W>, labels: Labels<'_>) -> fmt::Result {
+    for (outcome, count) in &labels.outstation.orders.by_outcome() {
+        write_outcome(f, labels, outcome, *count)?;
     }
     Ok(())
 }

@@ -1,10 +1,10 @@
 //! The page for people.
 
-use crate::escaped::Escaped;
-use crate::rows::{ClientRows, OutstationRows};
+use crate::rows::{write_clients, write_outstations};
 use crate::status::{Identity, Status};
 use crate::time::{Moment, Span};
-use crate::verdict::{Finding, FindingLine, Medium, Summary, Verdict};
+use crate::verdict::{Finding, Medium, Summary, Verdict};
+use gw_text::Escaped;
 use std::fmt;
 use std::net::SocketAddr;
 
@@ -61,40 +61,53 @@ small { white-space: normal }\n\
 .free .number { display: none }\n\
 }\n";
 
+/// What stands in front of the rows of outstations.
+const OUTSTATIONS: &str = "\
+<h2>Outstations</h2>\n<table>\n<thead><tr><th>Outstation</th><th>State</th><th>Last answer</th>\
+<th>Indications</th><th>Points</th><th class=number>Events</th><th class=number>Requests</th>\
+<th>Not taken</th><th>Orders</th></tr></thead>\n<tbody>\n";
+
+/// What stands between these and the rows of clients.
+const CLIENTS: &str = "\
+</tbody>\n</table>\n<h2>Clients</h2>\n<table>\n<thead><tr><th>Client</th><th>State</th><th>Connected</th>\
+<th class=number>Not acknowledged</th><th class=number>Queued</th><th class=number>Dropped</th>\
+<th>Ended</th></tr></thead>\n<tbody>\n";
+
 impl<'a> fmt::Display for Page<'a> {
     fn fmt<W: fmt::Write>(&self, f: &mut fmt::Formatter<W>) -> fmt::Result {
         let status = self.status;
-        let (verdict, site) = (self.verdict.words(), Named(status.identity.site));
-        let (top, facts) = (Top(*self), Facts(status));
-        let outstations = OutstationRows {
-            outstations: status.outstations.as_slice(),
-            now: status.now,
-        };
-        let clients = ClientRows {
-            clients: status.clients.as_slice(),
-            now: status.now,
-        };
-        write!(
-            f,
-            "<!DOCTYPE html>\n<html lang=en>\n<head>\n<meta charset=utf-8>\n\
-            <meta name=viewport content=\"width=device-width, initial-scale=1\">\n\
-            <meta http-equiv=refresh content=2>\n<link rel=icon href=\"data:,\">\n\
-            <title>{verdict} - {site}gateway</title>\n<style>\n{STYLE}</style>\n</head>\n<body>\n{top}{facts}\
-            <h2>Outstations</h2>\n<table>\n<thead><tr><th>Outstation</th><th>State</th><th>Last answer</th>\
-            <th>Indications</th><th>Points</th><th class=number>Events</th><th class=number>Requests</th>\
-            <th>Not taken</th><th>Orders</th></tr></thead>\n<tbody>\n{outstations}\
-            </tbody>\n</table>\n<h2>Clients</h2>\n<table>\n<thead><tr><th>Client</th><th>State</th><th>Connected</th>\
-            <th class=number>Not acknowledged</th><th class=number>Queued</th><th class=number>Dropped</th>\
-            <th>Ended</th></tr></thead>\n<tbody>\n{clients}</tbody>\n</table>\n</body>\n</html>\n"
-        )
+        write_head(f, self.verdict, status.identity.site)?;
+        write_top(f, status, self.verdict)?;
+        write_facts(f, status)?;
+        f.write_str(OUTSTATIONS)?;
+        write_outstations(f, status.outstations.as_slice(), status.now)?;
+        f.write_str(CLIENTS)?;
+        write_clients(f, status.clients.as_slice(), status.now)?;
+        f.write_str("</tbody>\n</table>\n</body>\n</html>\n")
     }
+}
+
+/// Writes the head of the page, and how its body begins.
+fn write_head<W: fmt::Write>(
+    f: &mut fmt::Formatter<W>,
+    verdict: &Verdict,
+    site: Option<&str>,
+) -> fmt::Result {
+    let (verdict, site) = (verdict.words(), SiteName(site));
+    write!(
+        f,
+        "<!DOCTYPE html>\n<html lang=en>\n<head>\n<meta charset=utf-8>\n\
+        <meta name=viewport content=\"width=device-width, initial-scale=1\">\n\
+        <meta http-equiv=refresh content=2>\n<link rel=icon href=\"data:,\">\n\
+        <title>{verdict} - {site}gateway</title>\n<style>\n{STYLE}</style>\n</head>\n<body>\n"
+    )
 }
 
 /// The name of the site in front of other words, if it has one.
 #[derive(Clone, Copy)]
-struct Named<'a>(Option<&'a str>);
+pub struct SiteName<'a>(pub Option<&'a str>);
 
-impl<'a> fmt::Display for Named<'a> {
+impl<'a> fmt::Display for SiteName<'a> {
     fn fmt<W: fmt::Write>(&self, f: &mut fmt::Formatter<W>) -> fmt::Result {
         match self.0 {
             Some(site) => write!(f, "{} - ", Escaped::html(site)),
@@ -103,35 +116,35 @@ impl<'a> fmt::Display for Named<'a> {
     }
 }
 
-/// How all is, and what isn't well.
-#[derive(Clone, Copy)]
-struct Top<'a>(Page<'a>);
+/// Writes how all is, and what isn't well.
+fn write_top<W: fmt::Write>(
+    f: &mut fmt::Formatter<W>,
+    status: &Status<'_>,
+    verdict: &Verdict,
+) -> fmt::Result {
+    let class = verdict.class();
+    write!(f, "<h1 class={class}>")?;
+    write_site(f, status.identity.site)?;
+    write_verdict(f, verdict.words(), Summary::of(status))?;
+    write_findings(f, status, "wrong", verdict.alarms.as_slice())?;
+    write_findings(f, status, "caution", verdict.cautions.as_slice())
+}
 
-impl<'a> fmt::Display for Top<'a> {
-    fn fmt<W: fmt::Write>(&self, f: &mut fmt::Formatter<W>) -> fmt::Result {
-        let Page { status, verdict } = self.0;
-        let (class, words) = (verdict.class(), verdict.words());
-        let (site, summary) = (Heading(status.identity.site), Summary::of(status));
-        write!(
-            f,
-            "<h1 class={class}>{site}{words}<span>{summary}</span></h1>\n"
-        )?;
-        write_findings(f, status, "wrong", verdict.alarms.as_slice())?;
-        write_findings(f, status, "caution", verdict.cautions.as_slice())
+/// Writes the name of the site above how all is, if it has one.
+fn write_site<W: fmt::Write>(f: &mut fmt::Formatter<W>, site: Option<&str>) -> fmt::Result {
+    match site {
+        Some(site) => write!(f, "<b>{}</b>", Escaped::html(site)),
+        None => Ok(()),
     }
 }
 
-/// The name of the site above how all is, if it has one.
-#[derive(Clone, Copy)]
-struct Heading<'a>(Option<&'a str>);
-
-impl<'a> fmt::Display for Heading<'a> {
-    fn fmt<W: fmt::Write>(&self, f: &mut fmt::Formatter<W>) -> fmt::Result {
-        match self.0 {
-            Some(site) => write!(f, "<b>{}</b>", Escaped::html(site)),
-            None => Ok(()),
-        }
-    }
+/// Writes how all is, and of how many that holds.
+fn write_verdict<W: fmt::Write>(
+    f: &mut fmt::Formatter<W>,
+    words: &str,
+    summary: Summary,
+) -> fmt::Result {
+    write!(f, "{words}<span>{summary}</span></h1>\n")
 }
 
 /// Writes findings, each in a line of this class: first those of the gateway as a whole, then the first of those of outstations,
@@ -151,15 +164,28 @@ fn write_findings<W: fmt::Write>(
             write_finding(f, status, class, *finding)?;
         }
     }
-    let mut of_outstations: usize = 0;
+    write_of_outstations(f, status, class, findings)?;
+    f.write_str("</ul>\n")
+}
+
+/// Writes the first findings of outstations, and how many more there are.
+fn write_of_outstations<W: fmt::Write>(
+    f: &mut fmt::Formatter<W>,
+    status: &Status<'_>,
+    class: &str,
+    findings: &[Finding],
+) -> fmt::Result {
+    let mut count: usize = 0;
     for finding in findings {
-        of_outstations = of_outstations.saturating_add(usize::from(finding.is_of_outstation()));
-        if finding.is_of_outstation() && of_outstations <= MOST_LISTED {
+        count = count.saturating_add(usize::from(finding.is_of_outstation()));
+        if finding.is_of_outstation() && count <= MOST_LISTED {
             write_finding(f, status, class, *finding)?;
         }
     }
-    write_more(f, class, of_outstations.saturating_sub(MOST_LISTED))?;
-    f.write_str("</ul>\n")
+    match count.saturating_sub(MOST_LISTED) {
+        0 => Ok(()),
+        more => write_more(f, class, more),
+    }
 }
 
 /// Writes a finding.
@@ -169,66 +195,57 @@ fn write_finding<W: fmt::Write>(
     class: &str,
     finding: Finding,
 ) -> fmt::Result {
-    let line = FindingLine {
-        status,
-        finding,
-        medium: Medium::Html,
-    };
-    write!(f, "<li class={class}>{line}</li>\n")
+    write!(f, "<li class={class}>")?;
+    finding.write(f, status, Medium::Html)?;
+    f.write_str("</li>\n")
 }
 
-/// Writes how many findings of outstations more there are, if there are some.
+/// Writes how many findings of outstations more there are.
 fn write_more<W: fmt::Write>(f: &mut fmt::Formatter<W>, class: &str, count: usize) -> fmt::Result {
-    match count {
-        0 => Ok(()),
-        count => write!(
-            f,
-            "<li class={class}>and {count} more of outstations below</li>\n"
-        ),
-    }
+    write!(
+        f,
+        "<li class={class}>and {count} more of outstations below</li>\n"
+    )
 }
 
-/// When this is, and which gateway.
-#[derive(Clone, Copy)]
-struct Facts<'a>(&'a Status<'a>);
-
-impl<'a> fmt::Display for Facts<'a> {
-    fn fmt<W: fmt::Write>(&self, f: &mut fmt::Formatter<W>) -> fmt::Result {
-        let status = self.0;
-        let identity = status.identity;
-        write!(
-            f,
-            "<p>At {}. The gateway runs for {}, since {}.{}</p>\n\
-            <p>Settings {}, SHA-256 {}.{} Version {}{}.</p>\n\
-            <p>{} steps of the core, {} spontaneous observations{}.</p>\n",
-            Moment(status.now),
-            Span(status.uptime()),
-            Moment(status.started),
-            WayToPoints(status.passed_over.is_some()),
-            Escaped::html(identity.file),
-            Digest(&identity.digest),
-            Listens(identity.listen),
-            Escaped::html(identity.version),
-            Commit(identity),
-            status.steps,
-            status.news,
-            Recorded(status.records)
-        )
-    }
+/// Writes when this is, and which gateway.
+fn write_facts<W: fmt::Write>(f: &mut fmt::Formatter<W>, status: &Status<'_>) -> fmt::Result {
+    write_times(f, status)?;
+    write_identity(f, status.identity)?;
+    write_counts(f, status.steps, status.news, status.records)
 }
 
-/// The way to the values of points, where they are shown.
-#[derive(Clone, Copy)]
-struct WayToPoints(bool);
+/// Writes when this is, since when the gateway runs, and the way to the values of points, where they are shown.
+fn write_times<W: fmt::Write>(f: &mut fmt::Formatter<W>, status: &Status<'_>) -> fmt::Result {
+    let (now, started) = (Moment(status.now), Moment(status.started));
+    let uptime = Span(status.uptime());
+    write!(
+        f,
+        "<p>At {now}. The gateway runs for {uptime}, since {started}."
+    )?;
+    f.write_str(if status.passed_over.is_some() {
+        " <a href=points>Values of points</a></p>\n"
+    } else {
+        "</p>\n"
+    })
+}
 
-impl fmt::Display for WayToPoints {
-    fn fmt<W: fmt::Write>(&self, f: &mut fmt::Formatter<W>) -> fmt::Result {
-        f.write_str(if self.0 {
-            " <a href=points>Values of points</a>"
-        } else {
-            ""
-        })
-    }
+/// Writes which gateway it is.
+fn write_identity<W: fmt::Write>(f: &mut fmt::Formatter<W>, identity: Identity<'_>) -> fmt::Result {
+    write_settings(f, Escaped::html(identity.file), Digest(&identity.digest))?;
+    write_listen(f, identity.listen)?;
+    write_version(f, Escaped::html(identity.version))?;
+    write_commit(f, identity.commit)?;
+    f.write_str(".</p>\n")
+}
+
+/// Writes which settings it has.
+fn write_settings<W: fmt::Write>(
+    f: &mut fmt::Formatter<W>,
+    file: Escaped<'_>,
+    digest: Digest<'_>,
+) -> fmt::Result {
+    write!(f, "<p>Settings {file}, SHA-256 {digest}.")
 }
 
 /// The SHA-256 of a file, in hexadecimal.
@@ -249,42 +266,44 @@ fn write_octet<W: fmt::Write>(f: &mut fmt::Formatter<W>, octet: u8) -> fmt::Resu
     write!(f, "{octet:02x}")
 }
 
-/// Where clients connect, if that is known.
-#[derive(Clone, Copy)]
-struct Listens(Option<SocketAddr>);
-
-impl fmt::Display for Listens {
-    fn fmt<W: fmt::Write>(&self, f: &mut fmt::Formatter<W>) -> fmt::Result {
-        match self.0 {
-            Some(address) => write!(f, " Listens on {address}."),
-            None => Ok(()),
-        }
+/// Writes where clients connect, if that is known.
+fn write_listen<W: fmt::Write>(
+    f: &mut fmt::Formatter<W>,
+    listen: Option<SocketAddr>,
+) -> fmt::Result {
+    match listen {
+        Some(address) => write!(f, " Listens on {address}."),
+        None => Ok(()),
     }
 }
 
-/// The commit that the gateway was built from, if it is known.
-#[derive(Clone, Copy)]
-struct Commit<'a>(Identity<'a>);
+/// Writes the version of the gateway.
+fn write_version<W: fmt::Write>(f: &mut fmt::Formatter<W>, version: Escaped<'_>) -> fmt::Result {
+    write!(f, " Version {version}")
+}
 
-impl<'a> fmt::Display for Commit<'a> {
-    fn fmt<W: fmt::Write>(&self, f: &mut fmt::Formatter<W>) -> fmt::Result {
-        match self.0.commit {
-            Some(commit) => write!(f, " (commit {})", Escaped::html(commit)),
-            None => Ok(()),
-        }
+/// Writes the commit that the gateway was built from, if it is known.
+fn write_commit<W: fmt::Write>(f: &mut fmt::Formatter<W>, commit: Option<&str>) -> fmt::Result {
+    match commit {
+        Some(commit) => write!(f, " (commit {})", Escaped::html(commit)),
+        None => Ok(()),
     }
 }
 
-/// Whether steps are taken down, if that is asked for.
-#[derive(Clone, Copy)]
-struct Recorded(Option<bool>);
-
-impl fmt::Display for Recorded {
-    fn fmt<W: fmt::Write>(&self, f: &mut fmt::Formatter<W>) -> fmt::Result {
-        f.write_str(match self.0 {
-            Some(true) => "; they are recorded",
-            Some(false) => "; the record has ended",
-            None => "",
-        })
-    }
+/// Writes how many steps and observations there were, and whether steps are taken down, if that is asked for.
+fn write_counts<W: fmt::Write>(
+    f: &mut fmt::Formatter<W>,
+    steps: u64,
+    news: u64,
+    records: Option<bool>,
+) -> fmt::Result {
+    write!(
+        f,
+        "<p>{steps} steps of the core, {news} spontaneous observations"
+    )?;
+    f.write_str(match records {
+        Some(true) => "; they are recorded.</p>\n",
+        Some(false) => "; the record has ended.</p>\n",
+        None => ".</p>\n",
+    })
 }

@@ -1,6 +1,6 @@
 //! How it is with an outstation and with a client, in words.
 
-use crate::indications::{Names, trouble_in};
+use crate::indications::{trouble_in, write_names};
 use crate::status::{ClientStatus, OutstationStatus};
 use std::fmt;
 
@@ -40,41 +40,34 @@ impl OutstationState {
     }
 }
 
-/// How it is with an outstation, in words.
-#[derive(Clone, Copy)]
-pub struct OutstationWords<'a>(pub &'a OutstationStatus);
-
-impl<'a> fmt::Display for OutstationWords<'a> {
-    fn fmt<W: fmt::Write>(&self, f: &mut fmt::Formatter<W>) -> fmt::Result {
-        let status = self.0;
-        f.write_str(status.state.words())?;
-        match status.state {
-            OutstationState::Trouble => {
-                fmt::Display::fmt(&Names(trouble_in(status.indications)), f)
-            }
-            OutstationState::NotConnected => write_reason(f, ": ", status.reason.as_str()),
-            OutstationState::AllRight
-            | OutstationState::ClockNotSet
-            | OutstationState::NotAnswering
-            | OutstationState::NoAnswerYet => Ok(()),
-        }
+/// Writes how it is with an outstation, in words.
+pub fn write_outstation_words<W: fmt::Write>(
+    f: &mut fmt::Formatter<W>,
+    outstation: &OutstationStatus,
+) -> fmt::Result {
+    f.write_str(outstation.state.words())?;
+    match outstation.state {
+        OutstationState::Trouble => write_names(f, trouble_in(outstation.indications)),
+        OutstationState::NotConnected => write_reason(f, ": ", outstation.reason.as_str()),
+        OutstationState::AllRight
+        | OutstationState::ClockNotSet
+        | OutstationState::NotAnswering
+        | OutstationState::NoAnswerYet => Ok(()),
     }
 }
 
-/// Why the connection before ended, where one did and the one that stands has no answer.
-#[derive(Clone, Copy)]
-pub struct Before<'a>(pub &'a OutstationStatus);
-
-impl<'a> fmt::Display for Before<'a> {
-    fn fmt<W: fmt::Write>(&self, f: &mut fmt::Formatter<W>) -> fmt::Result {
-        match self.0.state {
-            OutstationState::NotAnswering | OutstationState::NoAnswerYet => write_reason(
-                f,
-                "; the connection before ended: ",
-                self.0.reason.as_str(),
-            ),
-            _ => Ok(()),
-        }
+/// Writes why the connection before ended, where one did and the one that stands has no answer.
+pub fn write_before<W: fmt::Write>(
+    f: &mut fmt::Formatter<W>,
+    outstation: &OutstationStatus,
+) -> fmt::Result {
+    match outstation.state {
+        OutstationState::NotAnswering | OutstationState::NoAnswerYet => write_reason(
+            f,
+            "; the connection before ended: ",
+            outstation.reason.as_str(),
+        ),
+        _ => Ok(()),
     }
 }
 
@@ -85,10 +78,10 @@ fn write_reason<W: fmt::Write>(
     reason: &str,
 ) -> fmt::Result {
     if reason.is_empty() {
-        Ok(())
-    } else {
-        write!(f, "{words}{reason}")
+        return Ok(());
     }
+    f.write_str(words)?;
+    f.write_str(reason)
 }
 
 /// How it is with a place for a client.
@@ -114,20 +107,18 @@ impl ClientState {
     }
 }
 
-/// How it is with a place for a client, in words.
-#[derive(Clone, Copy)]
-pub struct ClientWords<'a>(pub &'a ClientStatus);
-
-impl<'a> fmt::Display for ClientWords<'a> {
-    fn fmt<W: fmt::Write>(&self, f: &mut fmt::Formatter<W>) -> fmt::Result {
-        let words = match self.0.state {
-            ClientState::Free => "free",
-            ClientState::ConnectedOnly => "connected only",
-            ClientState::TransfersData => "transfers data",
-            ClientState::ReadsTooSlowly(count) => return write_too_slow(f, count),
-        };
-        f.write_str(words)
-    }
+/// Writes how it is with a place for a client, in words.
+pub fn write_client_words<W: fmt::Write>(
+    f: &mut fmt::Formatter<W>,
+    client: &ClientStatus,
+) -> fmt::Result {
+    let words = match client.state {
+        ClientState::Free => "free",
+        ClientState::ConnectedOnly => "connected only",
+        ClientState::TransfersData => "transfers data",
+        ClientState::ReadsTooSlowly(count) => return write_too_slow(f, count),
+    };
+    f.write_str(words)
 }
 
 /// Writes that a client reads too slowly.

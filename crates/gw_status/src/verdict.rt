@@ -1,13 +1,12 @@
 //! Whether all is well, and what isn't.
 
-use crate::escaped::Escaped;
 use crate::indications::ask_for_time;
-use crate::state::{Before, OutstationWords};
+use crate::state::{write_before, write_outstation_words};
 use crate::status::{ClientStatus, OutstationStatus, Status};
 use crate::time::Moment;
+use gw_text::{Escaped, write_behind};
 use std::alloc::{AllocError, Global};
 use std::fmt;
-use std::net::SocketAddr;
 
 /// For how many milliseconds the core makes no tick at most where it lives: a second in which its lock is taken, and the time
 /// from one tick to the next.
@@ -67,17 +66,34 @@ impl Verdict {
             alarms: Vec::new(alloc),
             cautions: Vec::new(alloc),
         };
-        verdict.alarm_if(!is_alive(status.tickless_ms), Finding::Standstill)?;
-        for (position, outstation) in status.outstations.iter().enumerate() {
-            verdict.judge_outstation(position, outstation)?;
-        }
-        for (place, client) in status.clients.iter().enumerate() {
-            verdict.alarm_if(client.dropped_lately != 0, Finding::Dropped(place))?;
-        }
-        verdict.alarm_if(status.records == Some(false), Finding::RecordEnded)?;
-        let has_centre = has_centre(status.clients.as_slice());
-        verdict.alarm_if(status.needs_centre && !has_centre, Finding::NoCentre)?;
+        verdict.judge(status)?;
         Ok(verdict)
+    }
+
+    /// Judges how the gateway is.
+    fn judge(&mut self, status: &Status<'_>) -> Result<(), AllocError> {
+        let has_centre = has_centre(status.clients.as_slice());
+        self.alarm_if(!is_alive(status.tickless_ms), Finding::Standstill)?;
+        self.judge_outstations(status.outstations.as_slice())?;
+        self.judge_clients(status.clients.as_slice())?;
+        self.alarm_if(status.records == Some(false), Finding::RecordEnded)?;
+        self.alarm_if(status.needs_centre && !has_centre, Finding::NoCentre)
+    }
+
+    /// Judges how it is with the outstations.
+    fn judge_outstations(&mut self, outstations: &[OutstationStatus]) -> Result<(), AllocError> {
+        for (position, outstation) in outstations.iter().enumerate() {
+            self.judge_outstation(position, outstation)?;
+        }
+        Ok(())
+    }
+
+    /// Judges how it is with the places for clients.
+    fn judge_clients(&mut self, clients: &[ClientStatus]) -> Result<(), AllocError> {
+        for (place, client) in clients.iter().enumerate() {
+            self.alarm_if(client.dropped_lately != 0, Finding::Dropped(place))?;
+        }
+        Ok(())
     }
 
     /// Judges how it is with the outstation at a position.
@@ -169,58 +185,52 @@ impl Medium {
     }
 }
 
-/// The line of a finding.
-#[derive(Clone, Copy)]
-pub struct FindingLine<'a> {
-    pub status: &'a Status<'a>,
-    pub finding: Finding,
-    pub medium: Medium,
-}
-
-impl<'a> fmt::Display for FindingLine<'a> {
-    fn fmt<W: fmt::Write>(&self, f: &mut fmt::Formatter<W>) -> fmt::Result {
-        match self.finding {
-            Finding::Standstill => write_standstill(f, self.status.tickless_ms),
-            Finding::Dropped(place) => match self.status.clients.get(place) {
-                Some(client) => write_dropped(f, place, client),
-                None => Ok(()),
-            },
+impl Finding {
+    /// Writes its line, without the end, as it stands somewhere.
+    pub fn write<W: fmt::Write>(
+        self,
+        f: &mut fmt::Formatter<W>,
+        status: &Status<'_>,
+        medium: Medium,
+    ) -> fmt::Result {
+        match self {
+            Finding::Standstill => write_standstill(f, status.tickless_ms),
+            Finding::Dropped(place) => write_dropped_at(f, place, status.clients.as_slice()),
             Finding::RecordEnded => f.write_str("the record has ended"),
             Finding::NoCentre => f.write_str("no control centre transfers data"),
             Finding::Outstation(position)
             | Finding::TimeWanted(position)
-            | Finding::NeverTold(position) => match self.status.outstations.get(position) {
-                Some(outstation) => self.write_of_outstation(f, position, outstation),
+            | Finding::NeverTold(position) => match status.outstations.get(position) {
+                Some(outstation) => self.write_of_outstation(f, position, outstation, medium),
                 None => Ok(()),
             },
         }
     }
-}
 
-impl<'a> FindingLine<'a> {
     /// Writes what isn't well with the outstation at a position.
     fn write_of_outstation<W: fmt::Write>(
-        &self,
+        self,
         f: &mut fmt::Formatter<W>,
         position: usize,
         outstation: &OutstationStatus,
+        medium: Medium,
     ) -> fmt::Result {
-        let place = self.medium.show(outstation.place.as_str());
-        write!(f, "outstation {position} {place}: ")?;
+        let name = outstation.name.as_str();
+        write_which(f, position, medium.show(outstation.place.as_str()))?;
         self.write_what(f, outstation)?;
-        if outstation.name.is_empty() {
+        if name.is_empty() {
             return Ok(());
         }
-        write_behind(f, self.medium.show(outstation.name.as_str()))
+        write_behind(f, medium.show(name))
     }
 
     /// Writes what isn't well with an outstation, without which one it is.
     fn write_what<W: fmt::Write>(
-        &self,
+        self,
         f: &mut fmt::Formatter<W>,
         outstation: &OutstationStatus,
     ) -> fmt::Result {
-        match self.finding {
+        match self {
             Finding::TimeWanted(_) => f.write_str(
                 "asks for the time, and isn't given it, since lan_time isn't set",
             ),
@@ -230,9 +240,13 @@ impl<'a> FindingLine<'a> {
     }
 }
 
-/// Writes a name behind a line.
-fn write_behind<W: fmt::Write>(f: &mut fmt::Formatter<W>, name: Escaped<'_>) -> fmt::Result {
-    write!(f, "  {name}")
+/// Writes which outstation it is, by its position and where it is reached.
+fn write_which<W: fmt::Write>(
+    f: &mut fmt::Formatter<W>,
+    position: usize,
+    place: Escaped<'_>,
+) -> fmt::Result {
+    write!(f, "outstation {position} {place}: ")
 }
 
 /// Writes how it is with an outstation, and since when.
@@ -240,9 +254,10 @@ fn write_state<W: fmt::Write>(
     f: &mut fmt::Formatter<W>,
     outstation: &OutstationStatus,
 ) -> fmt::Result {
-    let (words, before) = (OutstationWords(outstation), Before(outstation));
     let since = Moment(outstation.state_since);
-    write!(f, "{words}, since {since}{before}")
+    write_outstation_words(f, outstation)?;
+    write!(f, ", since {since}")?;
+    write_before(f, outstation)
 }
 
 /// Writes for how long the core has made no tick.
@@ -251,34 +266,35 @@ fn write_standstill<W: fmt::Write>(f: &mut fmt::Formatter<W>, milliseconds: u64)
     write!(f, "the core has made no tick for {seconds} s")
 }
 
+/// Writes how many observations were dropped in the last minute at a place, where it is one.
+fn write_dropped_at<W: fmt::Write>(
+    f: &mut fmt::Formatter<W>,
+    place: usize,
+    clients: &[ClientStatus],
+) -> fmt::Result {
+    match clients.get(place) {
+        Some(client) => write_dropped(f, place, client),
+        None => Ok(()),
+    }
+}
+
 /// Writes how many observations were dropped in the last minute at a place.
 fn write_dropped<W: fmt::Write>(
     f: &mut fmt::Formatter<W>,
     place: usize,
     client: &ClientStatus,
 ) -> fmt::Result {
-    let who = if client.dropped_of_client == 0 {
-        Who(None)
-    } else {
-        Who(client.address)
-    };
     let count = client.dropped_lately;
-    write!(
-        f,
-        "client {place}{who}: {count} observations dropped in the last minute"
-    )
+    write!(f, "client {place}")?;
+    write_who(f, client)?;
+    write!(f, ": {count} observations dropped in the last minute")
 }
 
-/// Who has a place for a client, or had it before.
-#[derive(Clone, Copy)]
-struct Who(Option<SocketAddr>);
-
-impl fmt::Display for Who {
-    fn fmt<W: fmt::Write>(&self, f: &mut fmt::Formatter<W>) -> fmt::Result {
-        match self.0 {
-            Some(address) => write!(f, " {address}"),
-            None => f.write_str(", which has left"),
-        }
+/// Writes who has a place for a client, or had it before.
+fn write_who<W: fmt::Write>(f: &mut fmt::Formatter<W>, client: &ClientStatus) -> fmt::Result {
+    match client.address {
+        Some(address) if client.dropped_of_client != 0 => write!(f, " {address}"),
+        _ => f.write_str(", which has left"),
     }
 }
 
@@ -304,27 +320,17 @@ impl<'a> fmt::Display for Health<'a> {
         let Some(first) = alarms.first() else {
             return f.write_str("ok\n");
         };
-        let line = FindingLine {
-            status: self.status,
-            finding: *first,
-            medium: Medium::Plain,
-        };
-        let more = More(alarms.len().saturating_sub(1));
-        write!(f, "{line}{more}\n")
+        first.write(f, self.status, Medium::Plain)?;
+        if alarms.len() > 1 {
+            write_more(f, alarms.len() - 1)?;
+        }
+        f.write_str("\n")
     }
 }
 
-/// How many more there are; nothing where there are none.
-#[derive(Clone, Copy)]
-pub struct More(pub usize);
-
-impl fmt::Display for More {
-    fn fmt<W: fmt::Write>(&self, f: &mut fmt::Formatter<W>) -> fmt::Result {
-        match self.0 {
-            0 => Ok(()),
-            count => write!(f, ", and {count} more"),
-        }
-    }
+/// Writes how many more there are.
+fn write_more<W: fmt::Write>(f: &mut fmt::Formatter<W>, count: usize) -> fmt::Result {
+    write!(f, ", and {count} more")
 }
 
 /// Whether the core makes its ticks, in a line.

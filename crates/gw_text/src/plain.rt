@@ -1,21 +1,14 @@
 //! Texts from outside, on one line.
 
+use crate::escaped::Escaped;
 use std::fmt;
 
-/// A text that came from outside: its control characters are written as Rust escapes them, so that it makes no line of
-/// its own and moves no cursor.
+/// A text that came from outside, as a line has it.
 #[derive(Clone, Copy)]
 pub struct Plain<'a>(pub &'a str);
 
 impl<'a> fmt::Display for Plain<'a> {
     fn fmt<W: fmt::Write>(&self, f: &mut fmt::Formatter<W>) -> fmt::Result {
-        for c in self.0.chars() {
-            if c.is_control() {
-                write!(f, "{}", c.escape_default())?;
-            } else {
-                f.write_char(c)?;
-            }
-        }
-        Ok(())
+        fmt::Display::fmt(&Escaped::plain(self.0), f)
     }
 }

@@ -2,7 +2,8 @@
 
 use std::fmt;
 
-/// A text as it stands in another.
+/// A text as it stands in another. Its control characters are written as Rust escapes them, so that it makes no line of its own
+/// and moves no cursor.
 #[derive(Clone, Copy)]
 pub struct Escaped<'a> {
     text: &'a str,
@@ -12,24 +13,33 @@ pub struct Escaped<'a> {
     before_backslash: &'static str,
 }
 
-/// The escapes of HTML.
-const OF_HTML: &[(char, &str)] = &[
+/// The escapes of HTML; that of the apostrophe is the first.
+const OF_HTML: [(char, &str); 5] = [
+    ('\'', "&#39;"),
     ('&', "&amp;"),
     ('<', "&lt;"),
     ('>', "&gt;"),
     ('"', "&quot;"),
-    ('\'', "&#39;"),
 ];
 
 /// Those of the value of a label of Prometheus.
-const OF_LABEL: &[(char, &str)] = &[('\\', "\\\\"), ('"', "\\\""), ('\n', "\\n")];
+const OF_LABEL: [(char, &str); 3] = [('\\', "\\\\"), ('"', "\\\""), ('\n', "\\n")];
 
 impl<'a> Escaped<'a> {
     /// A text as HTML shows it, between tags and in an attribute's quotation marks.
     pub fn html(text: &'a str) -> Escaped<'a> {
         Escaped {
             text,
-            escapes: OF_HTML,
+            escapes: &OF_HTML,
+            before_backslash: "",
+        }
+    }
+
+    /// Words as HTML shows them between tags, where apostrophes may stay.
+    pub fn html_words(text: &'a str) -> Escaped<'a> {
+        Escaped {
+            text,
+            escapes: &OF_HTML[1..],
             before_backslash: "",
         }
     }
@@ -48,7 +58,7 @@ impl<'a> Escaped<'a> {
     pub fn label(text: &'a str) -> Escaped<'a> {
         Escaped {
             text,
-            escapes: OF_LABEL,
+            escapes: &OF_LABEL,
             before_backslash: "\\",
         }
     }
