@@ -1,8 +1,9 @@
 //! Lines of a sequence of events.
 
-use crate::csv_text::{CsvText, PointFields, clock_words};
+use crate::csv_text::{PointFields, clock_words};
 use crate::points::Points;
-use crate::words::{InstantIfAny, QualityLetters, ValueWords, instant_of, type_words};
+use crate::shown::ShownObservation;
+use crate::words::InstantIfAny;
 use gw_model::Observation;
 use gw_status::Instant;
 use std::fmt;
@@ -28,21 +29,20 @@ pub struct EventLine<'a> {
 
 impl<'a> fmt::Display for EventLine<'a> {
     fn fmt<W: fmt::Write>(&self, f: &mut fmt::Formatter<W>) -> fmt::Result {
-        let observation = &self.event.observation;
-        let (stamp, is_doubtful) = instant_of(observation.stamp);
+        let which = Which {
+            points: self.points,
+            observation: &self.event.observation,
+        };
+        let shown = ShownObservation::of(which.observation);
         write!(
             f,
-            "{},{},{},{},{},{},{},spontaneous\n",
+            "{},{},{},{which},{},{},{},spontaneous\n",
             Instant(self.event.wall),
-            InstantIfAny(stamp),
-            clock_words(is_doubtful),
-            Which {
-                points: self.points,
-                observation
-            },
-            type_words(observation.value),
-            ValueWords(observation.value),
-            QualityLetters(observation.quality)
+            InstantIfAny(shown.stamp),
+            clock_words(shown.is_doubtful),
+            shown.type_words,
+            shown.value,
+            shown.quality
         )
     }
 }

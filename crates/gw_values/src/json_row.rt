@@ -1,8 +1,6 @@
 //! Texts in JSON (RFC 8259).
 
-use crate::points::Point;
-use crate::table::PointValue;
-use crate::words::{QualityLetters, ValueWords, instant_of, is_number, type_words};
+use crate::shown::ShownPoint;
 use std::fmt;
 
 /// A text as the content of a JSON string.
@@ -60,36 +58,33 @@ impl fmt::Display for NumberOrNull {
 
 /// A point with its value as an object.
 #[derive(Clone, Copy)]
-pub(crate) struct JsonRow<'a> {
-    pub(crate) point: &'a Point,
-    pub(crate) value: &'a PointValue,
-}
+pub(crate) struct JsonRow<'a>(pub(crate) ShownPoint<'a>);
 
 impl<'a> fmt::Display for JsonRow<'a> {
     fn fmt<W: fmt::Write>(&self, f: &mut fmt::Formatter<W>) -> fmt::Result {
-        let JsonRow { point, value } = *self;
-        let observation = &value.observation;
-        let mark = if is_number(observation.value) {
+        let shown = &self.0;
+        let (point, observation) = (shown.point, &shown.observation);
+        let mark = if observation.value.is_number() {
             ""
         } else {
             "\""
         };
-        let (stamp, is_doubtful) = instant_of(observation.stamp);
         write!(
             f,
             "{{\"outstation\":{},\"common_address\":{},\"address\":{},\"name\":\"{}\",\"type\":\"{}\",\
-            \"value\":{mark}{}{mark},\"quality\":\"{}\",\"changed\":{},\"stamp\":{},\"stamp_doubtful\":{is_doubtful},\
+            \"value\":{mark}{}{mark},\"quality\":\"{}\",\"changed\":{},\"stamp\":{},\"stamp_doubtful\":{},\
             \"changes\":{}}}",
             point.outstation,
             point.object.common_address,
             point.object.address,
-            JsonText(point.name.as_str()),
-            type_words(observation.value),
-            ValueWords(observation.value),
-            QualityLetters(observation.quality),
-            NumberOrNull(value.changed),
-            NumberOrNull(stamp),
-            value.changes
+            JsonText(point.name.text.as_str()),
+            observation.type_words,
+            observation.value,
+            observation.quality,
+            NumberOrNull(shown.changed),
+            NumberOrNull(observation.stamp),
+            observation.is_doubtful,
+            shown.changes
         )
     }
 }

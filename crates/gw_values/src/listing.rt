@@ -4,8 +4,10 @@ use crate::csv_text::{CsvRow, VALUE_COLUMNS};
 use crate::html_row::HtmlRow;
 use crate::json_row::JsonRow;
 use crate::points::{Point, Points};
+use crate::shown::ShownPoint;
 use crate::table::{PointValue, TableHead};
 use std::alloc::{AllocError, Global};
+use std::fmt;
 
 /// In which form values are written.
 #[derive(Clone, Copy)]
@@ -95,14 +97,14 @@ impl<'a> Listing<'a> {
 
     /// Writes the row of a point.
     fn write(&mut self, point: &Point, value: &PointValue) -> Result<(), AllocError> {
-        let points = self.points;
+        let shown = ShownPoint::of(self.points, point, value);
         match self.choice.form {
-            Form::Html => write_html(&mut self.text, points, point, value),
-            Form::Csv => write_csv(&mut self.text, points, point, value),
+            Form::Html => write_row(&mut self.text, HtmlRow(shown)),
+            Form::Csv => write_row(&mut self.text, CsvRow(shown)),
             Form::Json => {
                 self.text.push_str(self.between)?;
                 self.between = ",\n";
-                write_json(&mut self.text, point, value)
+                write_row(&mut self.text, JsonRow(shown))
             }
         }
     }
@@ -117,38 +119,7 @@ impl<'a> Listing<'a> {
     }
 }
 
-/// Writes a row of the page.
-fn write_html(
-    text: &mut String,
-    points: &Points,
-    point: &Point,
-    value: &PointValue,
-) -> Result<(), AllocError> {
-    let row = HtmlRow {
-        points,
-        point,
-        value,
-    };
-    write!(text, "{row}")
-}
-
-/// Writes a row for a spreadsheet.
-fn write_csv(
-    text: &mut String,
-    points: &Points,
-    point: &Point,
-    value: &PointValue,
-) -> Result<(), AllocError> {
-    let row = CsvRow {
-        points,
-        point,
-        value,
-    };
-    write!(text, "{row}")
-}
-
-/// Writes an object for a program.
-fn write_json(text: &mut String, point: &Point, value: &PointValue) -> Result<(), AllocError> {
-    let row = JsonRow { point, value };
+/// Writes a row.
+fn write_row<R: fmt::Display + Drop>(text: &mut String, row: R) -> Result<(), AllocError> {
     write!(text, "{row}")
 }

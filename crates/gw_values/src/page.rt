@@ -3,7 +3,7 @@
 use crate::dress::{SCRIPT, STYLE};
 use crate::points::Points;
 use crate::table::TableHead;
-use gw_status::{Digest, Escaped, Identity, Instant};
+use gw_status::{Digest, Escaped, Identity, Instant, SiteName};
 use std::fmt;
 
 /// How many rows the page has where scripts don't run; others are on further pages.
@@ -44,19 +44,6 @@ impl<'a> fmt::Display for PointsPage<'a> {
     }
 }
 
-/// The name of the site in front of other words, if it has one.
-#[derive(Clone, Copy)]
-struct SiteName<'a>(Option<&'a str>);
-
-impl<'a> fmt::Display for SiteName<'a> {
-    fn fmt<W: fmt::Write>(&self, f: &mut fmt::Formatter<W>) -> fmt::Result {
-        match self.0 {
-            Some(site) => write!(f, "{} - ", Escaped::html(site)),
-            None => Ok(()),
-        }
-    }
-}
-
 /// What stands above the table: when this is, of which settings, and, where scripts run, what is chosen.
 #[derive(Clone, Copy)]
 struct Top<'a>(PointsPage<'a>);
@@ -91,7 +78,7 @@ struct Outstations<'a>(&'a Points);
 impl<'a> fmt::Display for Outstations<'a> {
     fn fmt<W: fmt::Write>(&self, f: &mut fmt::Formatter<W>) -> fmt::Result {
         for (position, name) in self.0.outstations().iter().enumerate() {
-            write_outstation(f, position, Escaped::html(name.as_str()))?;
+            write_outstation(f, position, Escaped::html(name.text.as_str()))?;
         }
         Ok(())
     }

@@ -1,5 +1,6 @@
 //! What is known of points besides their values.
 
+use crate::name::Name;
 use gw_map::{Row, Settings};
 use gw_model::ObjectKey;
 use gw_names::Names;
@@ -8,13 +9,12 @@ use std::collections::HashMap;
 
 /// What is known of a point besides its value.
 #[derive(Drop)]
-pub struct Point {
+pub(crate) struct Point {
     /// Its information object.
-    pub object: ObjectKey,
+    pub(crate) object: ObjectKey,
     /// The position of its outstation.
-    pub outstation: u8,
-    /// What it is called; empty where it has no name.
-    pub name: String,
+    pub(crate) outstation: u8,
+    pub(crate) name: Name,
 }
 
 /// The points of a site, in the order of the settings.
@@ -24,7 +24,7 @@ pub struct Points {
     /// Their positions, by their information objects.
     positions: HashMap<ObjectKey, usize>,
     /// What the outstations are called.
-    outstations: Vec<String>,
+    outstations: Vec<Name>,
 }
 
 impl Points {
@@ -41,8 +41,7 @@ impl Points {
     pub fn of(alloc: Global, settings: &Settings, names: &Names) -> Result<Points, AllocError> {
         let mut outstations = Vec::with_capacity(alloc, settings.outstations().len())?;
         for (position, _) in (0u8..).zip(settings.outstations()) {
-            let name = names.of_outstation(position).unwrap_or("");
-            outstations.push(String::from_str(alloc, name)?)?;
+            outstations.push(Name::of(alloc, names.of_outstation(position))?)?;
         }
         let mut points = Points {
             points: Vec::with_capacity(alloc, settings.rows().len())?,
@@ -57,9 +56,7 @@ impl Points {
 
     /// Adds that of a row.
     fn add(&mut self, alloc: Global, row: &Row, names: &Names) -> Result<(), AllocError> {
-        let name = names
-            .of_object(row.common_address, row.address)
-            .unwrap_or("");
+        let name = names.of_object(row.common_address, row.address);
         let object = ObjectKey {
             common_address: row.common_address,
             address: row.address,
@@ -68,7 +65,7 @@ impl Points {
         self.points.push(Point {
             object,
             outstation: row.key.outstation,
-            name: String::from_str(alloc, name)?,
+            name: Name::of(alloc, name)?,
         })?;
         Ok(())
     }
@@ -79,7 +76,7 @@ impl Points {
     }
 
     /// The one at a position.
-    pub fn get(&self, position: usize) -> Option<&Point> {
+    pub(crate) fn get(&self, position: usize) -> Option<&Point> {
         self.points.get(position)
     }
 
@@ -93,14 +90,22 @@ impl Points {
     }
 
     /// What the outstations are called, by their positions.
-    pub fn outstations(&self) -> &[String] {
+    pub(crate) fn outstations(&self) -> &[Name] {
         &self.outstations
     }
 
     /// What the outstation at a position is called; empty where it has no name.
-    pub fn name_of_outstation(&self, outstation: u8) -> &str {
+    pub(crate) fn name_of_outstation(&self, outstation: u8) -> &str {
         match self.outstations.get(usize::from(outstation)) {
-            Some(name) => name.as_str(),
+            Some(name) => name.text.as_str(),
+            None => "",
+        }
+    }
+
+    /// The same as a field of CSV.
+    pub(crate) fn field_of_outstation(&self, outstation: u8) -> &str {
+        match self.outstations.get(usize::from(outstation)) {
+            Some(name) => name.field.as_str(),
             None => "",
         }
     }

@@ -8,6 +8,13 @@ use std::fmt;
 #[derive(Clone, Copy)]
 pub struct ValueWords(pub Value);
 
+impl ValueWords {
+    /// Whether the value is a number.
+    pub fn is_number(self) -> bool {
+        matches!(self.0, Value::Scaled(_) | Value::Total(_))
+    }
+}
+
 /// The states of double-point information (IEC 60870-5-101, 7.2.6.2).
 fn double_word(state: u8) -> &'static str {
     match state {
@@ -52,11 +59,6 @@ pub fn type_words(value: Value) -> &'static str {
         Value::Word(_) => "bit string",
         Value::Total(_) => "integrated total",
     }
-}
-
-/// Whether a value is a number.
-pub fn is_number(value: Value) -> bool {
-    matches!(value, Value::Scaled(_) | Value::Total(_))
 }
 
 /// How many bits a quality has.
