@@ -2,12 +2,8 @@
 
 use crate::control_event::{CommandEvent, OrderEvent};
 use crate::doubt::Doubt;
-use crate::failure::Failure;
-use crate::loss::Loss;
-use crate::stray::StrayFrames;
-use crate::unknown_asdu::UnknownAsdus;
-use crate::unreadable::Unreadable;
 use crate::write_trouble::WriteTrouble;
+use gw_figures::{Failure, Loss, StrayFrames, UnknownAsdus, Unreadable};
 use gw_names::Names;
 use gw_text::RecordEnd;
 use iec_command::Command;

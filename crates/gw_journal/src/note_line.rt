@@ -2,12 +2,10 @@
 
 use crate::command_words::{AskedWords, ToldWords};
 use crate::control_event::{CommandEvent, OrderEvent};
-use crate::counted::{AndMore, Counted};
 use crate::doubt::Doubt;
 use crate::event::{JournalEvent, Priority, Subject};
-use crate::failure::Failure;
 use crate::reason::{Reason, ReasonWords};
-use crate::unreadable::Unreadable;
+use gw_figures::{AndMore, Counted, Failure, Unreadable};
 use gw_names::{Behind, Names};
 use gw_status::Instant;
 use gw_text::Plain;

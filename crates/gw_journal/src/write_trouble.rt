@@ -1,6 +1,6 @@
 //! Why a file can't be written.
 
-use crate::failure::Failure;
+use gw_figures::Failure;
 use std::io::ErrorKind;
 use thiserror::Error;
 

@@ -1,6 +1,6 @@
 //! Why a call to the system failed.
 ghost use Rattle.std.specs.Prelude.{◌≡◌};
-ghost use Rattle.gw_journal.specs.Failures.{failure_at};
+ghost use Rattle.gw_figures.specs.Failures.{failure_at};
 
 use std::io::ErrorKind;
 use thiserror::Error;

@@ -42,7 +42,7 @@ pub enum Cause {
 
 impl Cause {
     /// Whether the gateway ended the connection, and not for anything that its peer did or failed to do.
-    pub(crate) fn is_own(self) -> bool {
+    pub fn is_own(self) -> bool {
         matches!(self, Cause::GaveWay | Cause::GatewayEnds)
     }
 
