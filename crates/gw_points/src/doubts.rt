@@ -1,21 +1,18 @@
 //! What reads like a slip in the names of a list.
 
-use crate::list::List;
-use crate::told::Told;
+use gw_lists::{List, ListRow, Told};
 use gw_map::Settings;
 use gw_names::Names;
 use std::alloc::{AllocError, Global};
 use std::collections::HashMap;
-use thiserror::Error;
+use std::fmt;
 
 /// Something that reads like a slip in the names of a list.
-#[derive(Clone, Copy, Debug, Error)]
+#[derive(Clone, Copy)]
 pub enum NameDoubt {
     /// A row is of nothing in the settings.
-    #[error("row {0} of the names: the settings have no such point, control or outstation")]
     NotThere(usize),
     /// A row has the name of an earlier one.
-    #[error("row {row} of the names: its name is that of row {first} too")]
     SameName {
         /// The row.
         row: usize,
@@ -23,11 +20,45 @@ pub enum NameDoubt {
         first: usize,
     },
     /// A point has no name.
-    #[error("point {0}: it has no name")]
     PointUnnamed(usize),
     /// A control has none.
-    #[error("control {0}: it has no name")]
     ControlUnnamed(usize),
+}
+
+impl fmt::Display for NameDoubt {
+    fn fmt<W: fmt::Write>(&self, f: &mut fmt::Formatter<W>) -> fmt::Result {
+        match *self {
+            NameDoubt::NotThere(row) => write_stranger(f, row),
+            NameDoubt::SameName { row, first } => write_double(f, row, first),
+            NameDoubt::PointUnnamed(position) => write_unnamed(f, "point", position),
+            NameDoubt::ControlUnnamed(position) => write_unnamed(f, "control", position),
+        }
+    }
+}
+
+/// Writes that a row is of nothing in the settings.
+fn write_stranger<W: fmt::Write>(f: &mut fmt::Formatter<W>, row: usize) -> fmt::Result {
+    write!(
+        f,
+        "row {row} of the names: the settings have no such point, control or outstation"
+    )
+}
+
+/// Writes which earlier row has the name of a row.
+fn write_double<W: fmt::Write>(f: &mut fmt::Formatter<W>, row: usize, first: usize) -> fmt::Result {
+    write!(
+        f,
+        "row {row} of the names: its name is that of row {first} too"
+    )
+}
+
+/// Writes that the point or the control at a position has no name.
+fn write_unnamed<W: fmt::Write>(
+    f: &mut fmt::Formatter<W>,
+    what: &str,
+    position: usize,
+) -> fmt::Result {
+    write!(f, "{what} {position}: it has no name")
 }
 
 /// What reads like a slip in the names that a list gives to the points and the controls of settings.
@@ -38,10 +69,22 @@ pub fn name_doubts(
     settings: &Settings,
 ) -> Result<Told<NameDoubt>, AllocError> {
     let mut doubts = Told::new(alloc);
-    add_strangers(&mut doubts, list, settings)?;
-    add_doubles(alloc, &mut doubts, list)?;
-    add_unnamed(&mut doubts, names, settings)?;
+    add_all(alloc, &mut doubts, list, names, settings)?;
     Ok(doubts)
+}
+
+/// Adds all of them.
+fn add_all(
+    alloc: Global,
+    doubts: &mut Told<NameDoubt>,
+    list: &List,
+    names: &Names,
+    settings: &Settings,
+) -> Result<(), AllocError> {
+    add_strangers(doubts, list, settings)?;
+    add_doubles(alloc, doubts, list)?;
+    add_unnamed_points(doubts, names, settings)?;
+    add_unnamed_controls(doubts, names, settings)
 }
 
 /// Adds the rows that are of nothing in the settings.
@@ -66,23 +109,30 @@ fn add_strangers(
 fn add_doubles(alloc: Global, doubts: &mut Told<NameDoubt>, list: &List) -> Result<(), AllocError> {
     let mut named = HashMap::new(alloc);
     for row in &list.rows {
-        let name = row.name.as_str();
-        if name.is_empty() {
-            continue;
-        }
-        match named.insert(name, row.row)? {
-            Some(first) => doubts.add(NameDoubt::SameName {
-                row: row.row,
-                first,
-            })?,
-            None => {}
+        if !row.name.is_empty() {
+            add_double(&mut named, doubts, row)?;
         }
     }
     Ok(())
 }
 
-/// Adds the points and the controls without a name.
-fn add_unnamed(
+/// Adds a row if an earlier one has its name; this row is the last one with it now.
+fn add_double<'a>(
+    named: &mut HashMap<&'a str, usize>,
+    doubts: &mut Told<NameDoubt>,
+    row: &'a ListRow,
+) -> Result<(), AllocError> {
+    match named.insert(row.name.as_str(), row.row)? {
+        Some(first) => doubts.add(NameDoubt::SameName {
+            row: row.row,
+            first,
+        }),
+        None => Ok(()),
+    }
+}
+
+/// Adds the points without a name.
+fn add_unnamed_points(
     doubts: &mut Told<NameDoubt>,
     names: &Names,
     settings: &Settings,
@@ -95,6 +145,15 @@ fn add_unnamed(
             doubts.add(NameDoubt::PointUnnamed(position))?;
         }
     }
+    Ok(())
+}
+
+/// Adds the controls without a name.
+fn add_unnamed_controls(
+    doubts: &mut Told<NameDoubt>,
+    names: &Names,
+    settings: &Settings,
+) -> Result<(), AllocError> {
     for (position, control) in settings.controls().iter().enumerate() {
         if names
             .of_object(control.common_address, control.address)

@@ -1,30 +1,17 @@
-//! Lists of points and controls, as spreadsheets hold them: one row a point or control, in CSV. A list is read for the
-//! settings of a site, and written of settings; and what it calls the points, the controls and the outstations.
+//! What is made of lists of points and controls: settings for a site, and what they call the points, the controls and the
+//! outstations of settings; and lists of settings, written anew.
 #![tactic(auto)]
 
-mod allowed;
-mod cell;
-mod cells;
-mod columns;
-mod doubles;
 mod doubts;
-mod fault;
-mod kinds;
-mod layout;
-mod list;
 mod matching;
-mod reading;
-mod row;
-mod told;
 mod toml_text;
 mod writing;
 
 pub use doubts::{NameDoubt, name_doubts};
-pub use fault::{BadList, CellProblem, ListFault};
+pub use gw_lists::{
+    BadList, CellProblem, List, ListFault, ListRow, Listed, MOST_TOLD, Outstations, Told, read_list,
+};
 pub use gw_names::Names;
-pub use list::{List, ListRow, Listed};
 pub use matching::names_of;
-pub use reading::{Outstations, read_list};
-pub use told::{MOST_TOLD, Told};
 pub use toml_text::settings_text;
 pub use writing::list_text;

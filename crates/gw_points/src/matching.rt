@@ -1,6 +1,6 @@
 //! Which rows of a list belong to which points and controls of settings.
 
-use crate::list::{List, ListRow, Listed};
+use gw_lists::{List, ListRow, Listed};
 use gw_map::Settings;
 use gw_model::ObjectKey;
 use gw_names::Names;
@@ -10,12 +10,18 @@ use std::collections::HashMap;
 /// What a list calls the points, the controls and the outstations of settings.
 pub fn names_of(alloc: Global, list: &List, settings: &Settings) -> Result<Names, AllocError> {
     let mut names = Names::new(alloc);
+    add_names(&mut names, list, settings)?;
+    Ok(names)
+}
+
+/// Adds the names that a list gives.
+fn add_names(names: &mut Names, list: &List, settings: &Settings) -> Result<(), AllocError> {
     for row in &list.rows {
         if !row.name.is_empty() {
-            add_name(&mut names, row, settings)?;
+            add_name(names, row, settings)?;
         }
     }
-    Ok(names)
+    Ok(())
 }
 
 /// Adds the name that a row gives, if it belongs to something in the settings.
@@ -48,20 +54,37 @@ impl<'a> RowsOf<'a> {
         list: &'a List,
         settings: &Settings,
     ) -> Result<RowsOf<'a>, AllocError> {
-        let mut objects = HashMap::new(alloc);
-        let mut outstations = HashMap::new(alloc);
-        for (position, row) in list.rows.iter().enumerate() {
-            if let Some(object) = row.object_in(settings) {
-                objects.insert(object, position)?;
-            } else if let Listed::Outstation(outstation) = row.listed {
-                outstations.insert(outstation, position)?;
-            }
-        }
-        Ok(RowsOf {
+        let mut rows = RowsOf {
             list,
-            objects,
-            outstations,
-        })
+            objects: HashMap::new(alloc),
+            outstations: HashMap::new(alloc),
+        };
+        rows.add_all(settings)?;
+        Ok(rows)
+    }
+
+    /// Adds all rows of the list.
+    fn add_all(&mut self, settings: &Settings) -> Result<(), AllocError> {
+        let list = self.list;
+        for (position, row) in list.rows.iter().enumerate() {
+            self.add(position, row, settings)?;
+        }
+        Ok(())
+    }
+
+    /// Adds the row at a position, if it belongs to something.
+    fn add(
+        &mut self,
+        position: usize,
+        row: &ListRow,
+        settings: &Settings,
+    ) -> Result<(), AllocError> {
+        if let Some(object) = row.object_in(settings) {
+            self.objects.insert(object, position)?;
+        } else if let Listed::Outstation(outstation) = row.listed {
+            self.outstations.insert(outstation, position)?;
+        }
+        Ok(())
     }
 
     /// The row of the point or the control with a common address and an address.

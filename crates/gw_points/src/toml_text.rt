@@ -1,6 +1,6 @@
 //! The settings of a list, as a TOML text.
 
-use crate::list::{List, ListRow};
+use gw_lists::{List, ListRow};
 use gw_map::{Section, keys_of};
 use gw_text::Plain;
 use std::alloc::{AllocError, Global};
@@ -10,25 +10,49 @@ use toml::{Table, Value};
 /// The settings whose points and controls are those of a list, and whose station and outstations are those of a site's
 /// settings, as a TOML text. Names stand in comments.
 pub fn settings_text(alloc: Global, site: &str, list: &List) -> Result<String, AllocError> {
-    let site = toml::table_from_str(alloc, site).map_err(|_| AllocError)?;
     let mut text = String::new(alloc);
+    write_settings(alloc, site, list, &mut text)?;
+    Ok(text)
+}
+
+/// Writes them.
+fn write_settings(
+    alloc: Global,
+    site: &str,
+    list: &List,
+    text: &mut String,
+) -> Result<(), AllocError> {
+    match toml::table_from_str(alloc, site) {
+        Ok(site) => write_site(&site, text)?,
+        Err(_) => return Err(AllocError),
+    }
+    write_rows(list, text)
+}
+
+/// Writes the station and the outstations of a site's settings.
+fn write_site(site: &Table, text: &mut String) -> Result<(), AllocError> {
     if let Some(Value::Table(station)) = site.get("station") {
-        write_table("[station]", Section::Station, station, &mut text)?;
+        write_table("[station]", Section::Station, station, text)?;
     }
-    if let Some(Value::Array(outstations)) = site.get("outstation") {
-        write_outstations(outstations.as_slice(), &mut text)?;
+    match site.get("outstation") {
+        Some(Value::Array(outstations)) => write_outstations(outstations.as_slice(), text),
+        _ => Ok(()),
     }
+}
+
+/// Writes the points and then the controls of a list.
+fn write_rows(list: &List, text: &mut String) -> Result<(), AllocError> {
     for row in &list.rows {
         if row.listed.is_point() {
-            write_row("[[point]]", row, &mut text)?;
+            write_row("[[point]]", row, text)?;
         }
     }
     for row in &list.rows {
         if row.listed.is_control() {
-            write_row("[[control]]", row, &mut text)?;
+            write_row("[[control]]", row, text)?;
         }
     }
-    Ok(text)
+    Ok(())
 }
 
 fn write_outstations(outstations: &[Value], text: &mut String) -> Result<(), AllocError> {
@@ -65,8 +89,12 @@ fn write_pair(key: &str, value: &Value, text: &mut String) -> Result<(), AllocEr
 fn write_row(head: &str, row: &ListRow, text: &mut String) -> Result<(), AllocError> {
     text.push('\n')?;
     if !row.name.is_empty() {
-        writeln!(text, "# {}", Plain(row.name.as_str()))?;
+        write_name(row.name.as_str(), text)?;
     }
     writeln!(text, "{head}")?;
     row.write_keys(text)
+}
+
+fn write_name(name: &str, text: &mut String) -> Result<(), AllocError> {
+    writeln!(text, "# {}", Plain(name))
 }

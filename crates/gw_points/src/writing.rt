@@ -1,9 +1,8 @@
 //! Writing the list of settings.
 
-use crate::columns::COLUMNS;
-use crate::list::{List, ListRow};
 use crate::matching::RowsOf;
 use csv::{Writer, WriterBuilder};
+use gw_lists::{COLUMNS, List, ListRow};
 use gw_map::{Control, Operates, Outstation, Pulses, Rest, Row, Scale, Settings, Show};
 use gw_names::wants_apostrophe;
 use gw_profile::{control_word, kind_word, mode_word, show_word};
@@ -16,23 +15,30 @@ pub fn list_text(
     settings: &Settings,
     named: Option<&List>,
 ) -> Result<Vec<u8>, AllocError> {
-    let none = List {
-        rows: Vec::new(alloc),
-    };
-    let rows = RowsOf::new(alloc, named.unwrap_or(&none), settings)?;
+    match named {
+        Some(named) => named_list_text(alloc, settings, named),
+        None => {
+            let none = List {
+                rows: Vec::new(alloc),
+            };
+            named_list_text(alloc, settings, &none)
+        }
+    }
+}
+
+/// The same, with the names of a list.
+fn named_list_text(
+    alloc: Global,
+    settings: &Settings,
+    named: &List,
+) -> Result<Vec<u8>, AllocError> {
+    let rows = RowsOf::new(alloc, named, settings)?;
     let mut sheet = Sheet {
         alloc,
         writer: WriterBuilder::new().from_writer(Vec::new(alloc)),
     };
-    for column in &COLUMNS {
-        sheet.put(column)?;
-    }
-    sheet.end_row()?;
-    sheet.put_rows(settings, &rows)?;
-    match sheet.writer.into_inner() {
-        Ok(text) => Ok(text),
-        Err(_) => Err(AllocError),
-    }
+    sheet.put_all(settings, &rows)?;
+    sheet.into_text()
 }
 
 /// A list that is written into memory, so that only this can run out.
@@ -43,6 +49,23 @@ struct Sheet {
 }
 
 impl Sheet {
+    /// The whole text.
+    fn into_text(self) -> Result<Vec<u8>, AllocError> {
+        match self.writer.into_inner() {
+            Ok(text) => Ok(text),
+            Err(_) => Err(AllocError),
+        }
+    }
+
+    /// Puts the names of the columns, and the rows of settings, with the names of others.
+    fn put_all(&mut self, settings: &Settings, named: &RowsOf<'_>) -> Result<(), AllocError> {
+        for column in &COLUMNS {
+            self.put(column)?;
+        }
+        self.end_row()?;
+        self.put_rows(settings, named)
+    }
+
     /// Puts a cell.
     fn put(&mut self, text: &str) -> Result<(), AllocError> {
         self.writer
@@ -110,6 +133,18 @@ impl Sheet {
         self.put(kind)
     }
 
+    /// Puts the cells that tell where a point or a control is: the index, the common address and the address.
+    fn put_place(
+        &mut self,
+        index: u16,
+        common_address: u16,
+        address: u32,
+    ) -> Result<(), AllocError> {
+        self.put_number(u32::from(index))?;
+        self.put_number(u32::from(common_address))?;
+        self.put_number(address)
+    }
+
     /// Puts the row of an outstation.
     fn put_outstation(
         &mut self,
@@ -127,9 +162,7 @@ impl Sheet {
     /// Puts the row of a point.
     fn put_point(&mut self, point: &Row, row: Option<&ListRow>) -> Result<(), AllocError> {
         self.put_front(row, point.key.outstation, kind_word(point.key.kind))?;
-        self.put_number(u32::from(point.key.index))?;
-        self.put_number(u32::from(point.common_address))?;
-        self.put_number(point.address)?;
+        self.put_place(point.key.index, point.common_address, point.address)?;
         self.put(show_word(point.show))?;
         if point.show == Show::Scaled {
             self.put_scale(point.scale)?;
@@ -149,23 +182,29 @@ impl Sheet {
     /// Puts the row of a control.
     fn put_control(&mut self, control: &Control, row: Option<&ListRow>) -> Result<(), AllocError> {
         self.put_front(row, control.outstation, "control")?;
-        self.put_number(u32::from(control.index))?;
-        self.put_number(u32::from(control.common_address))?;
-        self.put_number(control.address)?;
+        self.put_place(control.index, control.common_address, control.address)?;
         self.put(control_word(control.operates))?;
         match control.operates {
-            Operates::Setpoint(scale) => {
-                self.put_scale(scale)?;
-                self.put_way(control)?;
-                self.skip(3)?;
-            }
-            Operates::Single(pulses) | Operates::Double(pulses) => {
-                self.skip(2)?;
-                self.put_way(control)?;
-                self.put_pulses(pulses)?;
-            }
+            Operates::Setpoint(scale) => self.put_setpoint(control, scale)?,
+            Operates::Single(pulses) | Operates::Double(pulses) => self.put_switch(
+                control, pulses,
+            )?,
         }
         self.end_row()
+    }
+
+    /// Puts the last cells of a set point.
+    fn put_setpoint(&mut self, control: &Control, scale: Scale) -> Result<(), AllocError> {
+        self.put_scale(scale)?;
+        self.put_way(control)?;
+        self.skip(3)
+    }
+
+    /// Puts the last cells of a single or double command.
+    fn put_switch(&mut self, control: &Control, pulses: Pulses) -> Result<(), AllocError> {
+        self.skip(2)?;
+        self.put_way(control)?;
+        self.put_pulses(pulses)
     }
 
     /// Puts the cells that tell how a control is operated.

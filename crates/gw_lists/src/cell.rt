@@ -67,11 +67,15 @@ fn read_flag(text: &str) -> Option<CellValue> {
 impl fmt::Display for CellValue {
     fn fmt<W: fmt::Write>(&self, f: &mut fmt::Formatter<W>) -> fmt::Result {
         match *self {
-            CellValue::Number(number) => write!(f, "{number}"),
-            CellValue::Word(word) => write!(f, "\"{word}\""),
-            CellValue::Flag(flag) => write!(f, "{flag}"),
+            CellValue::Number(number) => fmt::Display::fmt(&number, f),
+            CellValue::Word(word) => write_quoted(f, word),
+            CellValue::Flag(flag) => fmt::Display::fmt(&flag, f),
         }
     }
+}
+
+fn write_quoted<W: fmt::Write>(f: &mut fmt::Formatter<W>, word: &str) -> fmt::Result {
+    write!(f, "\"{word}\"")
 }
 
 /// The number at a key; 0 where there is none.

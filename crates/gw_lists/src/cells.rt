@@ -1,7 +1,8 @@
 //! The cells of a list, by their columns.
 
 use crate::columns::{NEEDED, column_named};
-use crate::fault::{ListFault, shown};
+use crate::fault::ListFault;
+use crate::problem::shown;
 use crate::told::Told;
 use csv::StringRecord;
 use std::alloc::{AllocError, Global};
@@ -34,15 +35,26 @@ impl Header {
         let mut header = Header {
             fields: Vec::new(alloc),
         };
+        header.add_all(alloc, names, faults)?;
+        Ok(header)
+    }
+
+    /// Adds the columns that the first row names, and which ones are missing.
+    fn add_all(
+        &mut self,
+        alloc: Global,
+        names: &StringRecord,
+        faults: &mut Told<ListFault>,
+    ) -> Result<(), AllocError> {
         for name in names.iter() {
-            header.add(alloc, name.trim(), faults)?;
+            self.add(alloc, name.trim(), faults)?;
         }
         for column in &NEEDED {
-            if !header.has(column) {
+            if !self.has(column) {
                 faults.add(ListFault::MissingColumn(column))?;
             }
         }
-        Ok(header)
+        Ok(())
     }
 
     /// Adds the column that a text names.
@@ -54,17 +66,20 @@ impl Header {
     ) -> Result<(), AllocError> {
         let named = match column_named(name) {
             Some(column) if self.has(column) => {
-                faults.add(ListFault::DoubleColumn(column))?;
-                Named::Other
+                return self.refuse(ListFault::DoubleColumn(column), faults);
             }
             Some(column) => Named::Column(column),
             None if name.is_empty() => Named::Nothing,
-            None => {
-                faults.add(ListFault::UnknownColumn(shown(alloc, name)?))?;
-                Named::Other
-            }
+            None => return self.refuse(ListFault::UnknownColumn(shown(alloc, name)?), faults),
         };
         self.fields.push(named)?;
+        Ok(())
+    }
+
+    /// Adds a field whose name can't be used, and why.
+    fn refuse(&mut self, fault: ListFault, faults: &mut Told<ListFault>) -> Result<(), AllocError> {
+        faults.add(fault)?;
+        self.fields.push(Named::Other)?;
         Ok(())
     }
 

@@ -4,9 +4,10 @@ use crate::allowed::Allowed;
 use crate::cell::{CellValue, KeyValue, number_at, word_at};
 use crate::cells::Cells;
 use crate::columns::COLUMNS;
-use crate::fault::{CellProblem, ListFault, shown};
+use crate::fault::ListFault;
 use crate::kinds::{KIND_WORDS, RowKind, shows_of};
 use crate::list::{ListRow, Listed};
+use crate::problem::{CellProblem, shown};
 use crate::reading::Outstations;
 use crate::told::Told;
 use gw_map::{Absence, Key, Section, keys_of};
@@ -36,26 +37,43 @@ pub(crate) fn read_row(
     faults: &mut Told<ListFault>,
 ) -> Result<Option<ListRow>, AllocError> {
     let before = faults.count();
-    let kind = read_kind(cells, faults)?;
-    let keys = read_keys(cells, kind, outstations, faults)?;
-    let name = read_text(cells, "name", faults)?;
-    let description = read_text(cells, "description", faults)?;
-    let common_address = read_common_address(cells, &keys, outstations, faults)?;
-    let Some(kind) = kind else {
-        return Ok(None);
-    };
-    judge_fit(cells, kind, &keys, faults)?;
-    if faults.count() != before {
-        return Ok(None);
-    }
-    Ok(Some(ListRow {
+    let mut row = ListRow {
         row: cells.row,
-        name,
-        description,
-        listed: listed_by(kind, &keys),
-        common_address,
-        keys,
-    }))
+        name: String::new(cells.alloc),
+        description: String::new(cells.alloc),
+        // (This is known once the cells are read.)
+        listed: Listed::Outstation(0),
+        common_address: None,
+        keys: Vec::new(cells.alloc),
+    };
+    match read_cells(cells, outstations, &mut row, faults)? {
+        Some(listed) if faults.count() == before => {
+            row.listed = listed;
+            Ok(Some(row))
+        }
+        _ => Ok(None),
+    }
+}
+
+/// Reads the cells of a row into it, and adds what is wrong with them; gives what the row is of, if its kind can be read.
+fn read_cells(
+    cells: &Cells<'_>,
+    outstations: &Outstations<'_>,
+    row: &mut ListRow,
+    faults: &mut Told<ListFault>,
+) -> Result<Option<Listed>, AllocError> {
+    let kind = read_kind(cells, faults)?;
+    read_keys(cells, kind, outstations, &mut row.keys, faults)?;
+    read_text(cells, "name", &mut row.name, faults)?;
+    read_text(cells, "description", &mut row.description, faults)?;
+    row.common_address = read_common_address(cells, &row.keys, outstations, faults)?;
+    match kind {
+        Some(kind) => {
+            judge_fit(cells, kind, &row.keys, faults)?;
+            Ok(Some(listed_by(kind, &row.keys)))
+        }
+        None => Ok(None),
+    }
 }
 
 /// Adds what is wrong with a cell.
@@ -100,38 +118,39 @@ fn read_kind(
     Ok(kind)
 }
 
-/// The text of a column, without the apostrophe that keeps a spreadsheet from taking it for a formula.
+/// Adds the text of a column, without the apostrophe that keeps a spreadsheet from taking it for a formula.
 fn read_text(
     cells: &Cells<'_>,
     column: &'static str,
+    text: &mut String,
     faults: &mut Told<ListFault>,
-) -> Result<String, AllocError> {
-    let text = without_apostrophe(cells.at(column));
-    if text.chars().count() > LONGEST_TEXT {
-        refuse_text(cells, column, Allowed::Text(LONGEST_TEXT), faults)?;
-        return Ok(String::new(cells.alloc));
+) -> Result<(), AllocError> {
+    let found = without_apostrophe(cells.at(column));
+    if found.chars().count() > LONGEST_TEXT {
+        refuse_text(cells, column, Allowed::Text(LONGEST_TEXT), faults)
+    } else {
+        text.push_str(found)
     }
-    String::from_str(cells.alloc, text)
 }
 
-/// The keys of the row's table of the settings that stand in it.
+/// Adds the keys of the row's table of the settings that stand in it.
 fn read_keys(
     cells: &Cells<'_>,
     kind: Option<RowKind>,
     outstations: &Outstations<'_>,
+    keys: &mut Vec<KeyValue>,
     faults: &mut Told<ListFault>,
-) -> Result<Vec<KeyValue>, AllocError> {
-    let mut keys = Vec::new(cells.alloc);
+) -> Result<(), AllocError> {
     let all = match kind {
         Some(kind) => kind.keys(),
         None => keys_of(Section::Point),
     };
     for key in all {
         if key.name != "kind" && is_read(kind, key.name) {
-            read_key(cells, key, outstations, &mut keys, faults)?;
+            read_key(cells, key, outstations, keys, faults)?;
         }
     }
-    Ok(keys)
+    Ok(())
 }
 
 /// Whether a column is read of a row of a kind, if it has one.

@@ -1,7 +1,7 @@
 //! The columns of a list.
 
 /// The columns that a list may have, in the order in which they are written.
-pub(crate) const COLUMNS: [&str; 15] = [
+pub const COLUMNS: [&str; 15] = [
     "name",
     "description",
     "outstation",

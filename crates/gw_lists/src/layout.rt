@@ -17,7 +17,7 @@ pub(crate) struct Layout {
 }
 
 /// Where in a record a scan is.
-#[derive(Clone, Copy, PartialEq)]
+#[derive(Clone, Copy)]
 enum Place {
     /// At the beginning of a field.
     Front,
@@ -45,6 +45,14 @@ struct Scan {
 }
 
 impl Scan {
+    /// Takes the octets of a list.
+    fn take_all(&mut self, octets: &[u8], faults: &mut Told<ListFault>) -> Result<(), AllocError> {
+        for octet in octets {
+            self.take(*octet, faults)?;
+        }
+        self.end(faults)
+    }
+
     /// Takes an octet.
     fn take(&mut self, octet: u8, faults: &mut Told<ListFault>) -> Result<(), AllocError> {
         if self.is_behind_return && octet != b'\n' {
@@ -105,15 +113,14 @@ impl Scan {
     }
 
     /// Takes the end of the list.
-    fn end(mut self, faults: &mut Told<ListFault>) -> Result<Layout, AllocError> {
+    fn end(&mut self, faults: &mut Told<ListFault>) -> Result<(), AllocError> {
         if self.is_behind_return {
             faults.add(ListFault::LoneReturn(self.line))?;
         }
         if self.place == Place::Quoted {
             faults.add(ListFault::OpenQuote(self.opened))?;
         }
-        self.end_row()?;
-        Ok(self.layout)
+        self.end_row()
     }
 }
 
@@ -136,10 +143,8 @@ pub(crate) fn layout_of(
         is_behind_return: false,
         opened: 1,
     };
-    for octet in text {
-        scan.take(*octet, faults)?;
-    }
-    scan.end(faults)
+    scan.take_all(text, faults)?;
+    Ok(scan.layout)
 }
 
 /// A text without the mark that may stand in front of it.

@@ -2,12 +2,13 @@
 
 use crate::cells::{Cells, Header};
 use crate::doubles::RowsBefore;
-use crate::fault::{BadList, CellProblem, ListFault};
+use crate::fault::{BadList, ListFault};
 use crate::layout::{layout_of, line_at};
 use crate::list::{List, ListRow, Listed};
+use crate::problem::CellProblem;
 use crate::row::read_row;
 use crate::told::Told;
-use csv::{Error, ReaderBuilder, StringRecord};
+use csv::{Error, Reader, ReaderBuilder, StringRecord};
 use gw_map::{Outstation, ROWS};
 use gw_model::ObjectKey;
 use std::alloc::{AllocError, Global};
@@ -53,12 +54,7 @@ pub fn read_list(
         before: RowsBefore::new(alloc),
     };
     reading.read(octets, outstations)?;
-    let Reading { list, faults, .. } = reading;
-    if faults.count() == 0 {
-        Ok(list)
-    } else {
-        Err(BadList::Refused(faults))
-    }
+    reading.into_list()
 }
 
 /// A list that is read, and what is wrong with it.
@@ -93,27 +89,60 @@ impl Reading {
         rows: &[usize],
         outstations: &Outstations<'_>,
     ) -> Result<(), AllocError> {
-        let reader = ReaderBuilder::new()
+        let mut reader = ReaderBuilder::new()
             .has_headers(false)
             .flexible(true)
             .delimiter(separator)
             .from_reader(self.alloc, octets);
+        match self.read_header(&mut reader)? {
+            Some(header) => self.read_rows(&header, &mut reader, rows, outstations),
+            None => self.faults.add(ListFault::NoNames),
+        }
+    }
+
+    /// The columns that the first record names, if there is one.
+    fn read_header(&mut self, reader: &mut Reader<&[u8]>) -> Result<Option<Header>, AllocError> {
+        match reader.records().next() {
+            Some(names) => {
+                let names = record_of(names)?;
+                let header = Header::read(self.alloc, &names, &mut self.faults)?;
+                Ok(Some(header))
+            }
+            None => Ok(None),
+        }
+    }
+
+    /// Reads the records below the names of the columns; the first of the rows is that of the names.
+    fn read_rows(
+        &mut self,
+        header: &Header,
+        reader: &mut Reader<&[u8]>,
+        rows: &[usize],
+        outstations: &Outstations<'_>,
+    ) -> Result<(), AllocError> {
         let mut numbers = rows.iter();
-        let mut records = reader.into_records();
-        let Some(names) = records.next() else {
-            return self.faults.add(ListFault::NoNames);
-        };
-        let header = Header::read(self.alloc, &record_of(names)?, &mut self.faults)?;
         let _row_of_names = numbers.next();
-        for record in records {
+        for record in reader.records() {
             let row = numbers.next().copied().unwrap_or(0);
-            self.read_record(&header, &record_of(record)?, row, outstations)?;
+            self.read_record(header, record, row, outstations)?;
         }
         Ok(())
     }
 
-    /// Reads a record below the names of the columns.
+    /// Reads a record below the names of the columns, which stands in a row.
     fn read_record(
+        &mut self,
+        header: &Header,
+        record: Result<StringRecord, Error>,
+        row: usize,
+        outstations: &Outstations<'_>,
+    ) -> Result<(), AllocError> {
+        let record = record_of(record)?;
+        self.read_cells(header, &record, row, outstations)
+    }
+
+    /// Reads the cells of a row.
+    fn read_cells(
         &mut self,
         header: &Header,
         record: &StringRecord,
@@ -209,9 +238,20 @@ impl Reading {
             }
         }
         if count > ROWS {
-            self.faults.add(ListFault::TooMany { count, most: ROWS })?;
+            self.faults.add(ListFault::TooMany { count, most: ROWS })
+        } else {
+            Ok(())
         }
-        Ok(())
+    }
+
+    /// The list, or all that is wrong with it.
+    fn into_list(self) -> Result<List, BadList> {
+        let Reading { list, faults, .. } = self;
+        if faults.count() == 0 {
+            Ok(list)
+        } else {
+            Err(BadList::Refused(faults))
+        }
     }
 }
 

@@ -2,7 +2,7 @@
 
 use crate::cell::KeyValue;
 use gw_map::{Control, Row, Settings};
-use gw_model::{ObjectKey, PointKey};
+use gw_model::{Kind, ObjectKey, PointKey};
 use gw_profile::kind_word;
 use std::alloc::AllocError;
 use std::fmt::Write;
@@ -79,12 +79,12 @@ impl Listed {
     }
 
     /// That of a point of settings.
-    pub(crate) fn of_point(point: &Row) -> Listed {
+    fn of_point(point: &Row) -> Listed {
         Listed::Point(point.key, point.address)
     }
 
     /// That of a control of settings.
-    pub(crate) fn of_control(control: &Control) -> Listed {
+    fn of_control(control: &Control) -> Listed {
         Listed::Control {
             outstation: control.outstation,
             index: control.index,
@@ -146,18 +146,18 @@ fn is_control(control: Option<&Control>, listed: Listed) -> bool {
 
 impl ListRow {
     /// Writes the keys of the row's table of the settings, a line each.
-    pub(crate) fn write_keys(&self, text: &mut String) -> Result<(), AllocError> {
+    pub fn write_keys(&self, text: &mut String) -> Result<(), AllocError> {
         for pair in &self.keys {
             write_pair(pair, text)?;
             if let (Listed::Point(key, _), "outstation") = (self.listed, pair.key) {
-                writeln!(text, "kind = \"{}\"", kind_word(key.kind))?;
+                write_kind(key.kind, text)?;
             }
         }
         Ok(())
     }
 
     /// The information object of the point or the control that the row is of, if settings have it.
-    pub(crate) fn object_in(&self, settings: &Settings) -> Option<ObjectKey> {
+    pub fn object_in(&self, settings: &Settings) -> Option<ObjectKey> {
         let address = self.listed.address()?;
         let common_address = self.common_address_in(settings)?;
         let point = settings.row_at(common_address, address);
@@ -177,7 +177,7 @@ impl ListRow {
     }
 
     /// The common address of the row's outstation in settings, unless another one stands in the row.
-    pub(crate) fn common_address_in(&self, settings: &Settings) -> Option<u16> {
+    pub fn common_address_in(&self, settings: &Settings) -> Option<u16> {
         let position = usize::from(self.listed.outstation());
         let common_address = settings.outstations().get(position)?.common_address;
         match self.common_address {
@@ -191,4 +191,10 @@ impl ListRow {
 fn write_pair(pair: &KeyValue, text: &mut String) -> Result<(), AllocError> {
     let KeyValue { key, value } = *pair;
     writeln!(text, "{key} = {value}")
+}
+
+/// Writes the key of a point's kind.
+fn write_kind(kind: Kind, text: &mut String) -> Result<(), AllocError> {
+    let word = kind_word(kind);
+    writeln!(text, "kind = \"{word}\"")
 }

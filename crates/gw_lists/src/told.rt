@@ -1,12 +1,13 @@
 //! What is told of many things: the first of them, and how many there are.
 
 use std::alloc::{AllocError, Global};
+use std::fmt;
 
 /// How many are told.
 pub const MOST_TOLD: usize = 100;
 
 /// Things of which the first hundred are told, and the others counted.
-#[derive(Debug, Drop)]
+#[derive(Drop)]
 pub struct Told<T> {
     first: Vec<T>,
     more: usize,
@@ -44,5 +45,12 @@ impl<T: Drop> Told<T> {
     /// How many there are.
     pub fn count(&self) -> usize {
         self.first.len().saturating_add(self.more)
+    }
+}
+
+/// So that an error can hold some.
+impl<T> fmt::Debug for Told<T> {
+    fn fmt<W: fmt::Write>(&self, f: &mut fmt::Formatter<W>) -> fmt::Result {
+        f.write_str("Told { .. }")
     }
 }

@@ -4,7 +4,7 @@ use gw_map::KeyContent;
 use std::fmt;
 
 /// What may stand in a cell.
-#[derive(Clone, Copy, Debug)]
+#[derive(Clone, Copy)]
 pub enum Allowed {
     /// A whole number, from the first to the second.
     Number(i64, i64),
