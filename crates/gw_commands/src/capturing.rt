@@ -7,9 +7,9 @@ use crate::system::System;
 use gw_map::Settings;
 use gw_pcap::{Captured, Stop, capture};
 use gw_text::Plain;
+use std::fmt::Display;
 use std::fs::File;
 use std::io::{self, BufReader, BufWriter, Write};
-use thiserror::Error;
 
 /// What whoever makes a capture is told.
 const MADE_ANEW: &str =
@@ -18,34 +18,34 @@ const MADE_ANEW: &str =
 /// What whoever makes one of a record that was cut is told too.
 const CUT: &str = "the last line has no end, and is left out";
 
-/// Why a capture isn't whole.
-#[derive(Debug, Drop, Error)]
-enum Unmade<'a> {
-    /// Its file can't be made: its name, and why.
-    #[error("can't write the capture {out}: {1}", out = Plain(*.0))]
-    NoFile(&'a str, FileFailure),
-    /// It ends early: its name, and why.
-    #[error("the capture {out} isn't whole: {1}", out = Plain(*.0))]
-    Ended(&'a str, Stop),
-}
-
 /// `gateway pcap`, from standard input to a file that is made; gives the status.
 pub fn pcap<S: System>(rt: &S, file: &str, out: &str) -> io::Result<u8> {
-    let settings = match settings_of(rt, file) {
-        Ok(settings) => settings,
-        Err(bad) => return refuse_file(rt, "", &bad),
-    };
+    match settings_of(rt, file) {
+        Ok(settings) => make_capture(rt, settings, out),
+        Err(bad) => refuse_file(rt, "", &bad),
+    }
+}
+
+/// Makes a file of what standard input shows; gives the status.
+fn make_capture<S: System>(rt: &S, settings: Settings, out: &str) -> io::Result<u8> {
+    let out_name = Plain(out);
     let made = match File::create_new(rt, out) {
         Ok(made) => made,
         Err(error) => {
-            let failure = FileFailure::of(error.kind(), "folder");
-            return refuse_capture(rt, &Unmade::NoFile(out, failure));
+            let why = FileFailure::of(error.kind(), "folder");
+            return refuse_capture(
+                rt,
+                &format_args!("can't write the capture {out_name}: {why}"),
+            );
         }
     };
     match write_capture(rt, settings, made) {
         Ok(captured) => tell_captured(rt, captured),
         Err(Stop::Memory) => refuse_for(rt, "memory"),
-        Err(stop) => refuse_capture(rt, &Unmade::Ended(out, stop)),
+        Err(why) => refuse_capture(
+            rt,
+            &format_args!("the capture {out_name} isn't whole: {why}"),
+        ),
     }
 }
 
@@ -76,7 +76,7 @@ fn tell_captured<S: System>(rt: &S, captured: Captured) -> io::Result<u8> {
 }
 
 /// Tells why there is no capture, or no whole one; gives the status.
-fn refuse_capture<S: System>(rt: &S, why: &Unmade<'_>) -> io::Result<u8> {
+fn refuse_capture<S: System, D: Display>(rt: &S, why: &D) -> io::Result<u8> {
     let status = refuse_for(rt, "capture")?;
     complain(rt, "", why);
     Ok(status)

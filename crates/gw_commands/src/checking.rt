@@ -2,14 +2,14 @@
 
 use crate::commit::commit_of;
 use crate::lists::{Named, refuse_list};
-use crate::refusal::{REFUSED, refuse_file, refuse_octets, tell_texts};
+use crate::refusal::{refuse_file, refuse_octets, tell_texts, write_text};
 use crate::settings_file::read_octets;
 use crate::system::System;
 use gw_checker::{CheckReport, Origin, read_settings, write_warnings};
 use gw_command_line::VERSION;
 use gw_map::Settings;
 use sha2::{Digest, Sha256};
-use std::io::{self, BufWriter, Write};
+use std::io;
 
 /// In which form settings are told.
 #[derive(Clone, Copy)]
@@ -42,24 +42,16 @@ pub fn check<S: System>(
     form: CheckForm,
     names: Option<&str>,
 ) -> io::Result<u8> {
-    let octets = match read_octets(rt, file) {
-        Ok(octets) => octets,
-        Err(bad) => return refuse_file(rt, "", &bad),
-    };
-    let settings = match read_settings(rt.alloc(), octets.as_slice()) {
-        Ok(settings) => settings,
-        Err(why) => return refuse_octets(rt, "", octets.as_slice(), &why),
-    };
-    match Named::read(rt, &settings, names) {
-        Ok(named) => {
+    match read_octets(rt, file) {
+        Ok(octets) => {
             let source = Source {
                 file,
                 octets: octets.as_slice(),
                 names,
             };
-            check_named(rt, source, &settings, &named, form)
+            check_source(rt, source, form)
         }
-        Err(why) => refuse_list(rt, "", &why),
+        Err(bad) => refuse_file(rt, "", &bad),
     }
 }
 
@@ -69,6 +61,27 @@ struct Source<'a> {
     file: &'a str,
     octets: &'a [u8],
     names: Option<&'a str>,
+}
+
+/// Writes what the settings mean whose octets were read; gives the status.
+fn check_source<S: System>(rt: &S, source: Source<'_>, form: CheckForm) -> io::Result<u8> {
+    match read_settings(rt.alloc(), source.octets) {
+        Ok(settings) => check_settings(rt, source, &settings, form),
+        Err(why) => refuse_octets(rt, "", source.octets, &why),
+    }
+}
+
+/// Writes what the settings of a file mean, with the names of its list; gives the status.
+fn check_settings<S: System>(
+    rt: &S,
+    source: Source<'_>,
+    settings: &Settings,
+    form: CheckForm,
+) -> io::Result<u8> {
+    match Named::read(rt, settings, source.names) {
+        Ok(named) => check_named(rt, source, settings, &named, form),
+        Err(why) => refuse_list(rt, "", &why),
+    }
 }
 
 /// Writes what the settings of a file mean; gives the status.
@@ -98,24 +111,28 @@ fn check_named<S: System>(
     }
 }
 
-/// Writes what settings mean, and on standard error what reads like a slip in them and in the names; gives the status.
+/// Writes what settings mean, once the whole text is made, and on standard error what reads like a slip; gives the status.
 fn write_report<S: System>(
     rt: &S,
     settings: &Settings,
     named: &Named,
     report: CheckReport<'_>,
 ) -> io::Result<u8> {
-    let mut writer = BufWriter::new(rt.alloc(), io::writer(rt))?;
-    let written = report.write(rt.alloc(), settings, &named.names, &mut writer);
-    if written.is_err() || writer.flush().is_err() {
-        return Ok(REFUSED);
+    let mut text = Vec::new(rt.alloc());
+    report.write(rt.alloc(), settings, &named.names, &mut text)?;
+    let status = write_text(rt, text.as_slice())?;
+    if status == 0 {
+        warn(rt, settings, named);
     }
+    Ok(status)
+}
+
+/// Tells what reads like a slip in settings and in the names. The settings are right, also where nobody can be warned.
+fn warn<S: System>(rt: &S, settings: &Settings, named: &Named) {
     let mut warnings = Vec::new(rt.alloc());
-    // The settings are right, also where nobody can be warned.
     if write_warnings(rt.alloc(), settings, &named.names, &mut warnings).is_ok()
         && named.write_doubts(&mut warnings).is_ok()
     {
         tell_texts(rt, "", warnings.as_slice());
     }
-    Ok(0)
 }

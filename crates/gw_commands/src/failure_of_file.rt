@@ -1,6 +1,6 @@
 //! Why a file can't be read or made, in words.
 
-use gw_journal::Failure;
+use gw_figures::Failure;
 use std::io::ErrorKind;
 use thiserror::Error;
 

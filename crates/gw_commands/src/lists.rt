@@ -1,7 +1,7 @@
 //! Lists of points and controls: the settings of one, that of settings, and the names that one gives.
 
-use crate::refusal::{REFUSED, USAGE, complain, refuse_file, refuse_for, refuse_octets};
-use crate::settings_file::{BadFile, read_octets};
+use crate::refusal::{USAGE, complain, refuse_file, refuse_for, refuse_octets, write_text};
+use crate::settings_file::{BadFile, read_octets, settings_of};
 use crate::system::System;
 use gw_checker::{Unusable, read_settings};
 use gw_map::Settings;
@@ -9,7 +9,7 @@ use gw_points::{
     BadList, List, ListFault, NameDoubt, Names, Outstations, Told, list_text, name_doubts,
     names_of, read_list, settings_text,
 };
-use std::alloc::AllocError;
+use std::alloc::{AllocError, Global};
 use std::io::{self, Write};
 use std::str;
 use thiserror::Error;
@@ -59,8 +59,13 @@ impl Named {
             });
         };
         let list = list_in(rt, settings, file, false)?;
-        let names = names_of(rt.alloc(), &list, settings)?;
-        let doubts = name_doubts(rt.alloc(), &list, &names, settings)?;
+        Ok(Named::of(rt.alloc(), &list, settings)?)
+    }
+
+    /// What this list calls them.
+    fn of(alloc: Global, list: &List, settings: &Settings) -> Result<Named, AllocError> {
+        let names = names_of(alloc, list, settings)?;
+        let doubts = name_doubts(alloc, list, &names, settings)?;
         Ok(Named { names, doubts })
     }
 
@@ -98,15 +103,6 @@ pub fn points<'a, S: System>(
     }
 }
 
-/// Writes a text on standard output; gives the status.
-fn write_text<S: System>(rt: &S, text: &[u8]) -> io::Result<u8> {
-    let mut writer = io::writer(rt);
-    if writer.write_all(text).is_err() || writer.flush().is_err() {
-        return Ok(REFUSED);
-    }
-    Ok(0)
-}
-
 /// The list of a file, for these settings. Where it is to be `whole`, it may have nothing that isn't of their outstations.
 fn list_in<'a, S: System>(
     rt: &S,
@@ -122,29 +118,27 @@ fn list_in<'a, S: System>(
     Ok(read_list(rt.alloc(), octets.as_slice(), &outstations)?)
 }
 
-/// The octets of a settings file, and the settings.
-fn read_site<'a, S: System>(rt: &S, file: &'a str) -> Result<(Vec<u8>, Settings), Unlisted<'a>> {
-    let octets = read_octets(rt, file)?;
-    match read_settings(rt.alloc(), octets.as_slice()) {
-        Ok(settings) => Ok((octets, settings)),
-        Err(why) => Err(Unlisted::File(BadFile::Refused(octets, why))),
-    }
-}
-
 /// The list of a settings file, with the names of another list.
 fn list_of<'a, S: System>(
     rt: &S,
     file: &'a str,
     names: Option<&'a str>,
 ) -> Result<Vec<u8>, Unlisted<'a>> {
-    let (_, settings) = read_site(rt, file)?;
+    let settings = settings_of(rt, file)?;
     match names {
-        Some(names) => {
-            let named = list_in(rt, &settings, names, false)?;
-            Ok(list_text(rt.alloc(), &settings, Some(&named))?)
-        }
+        Some(names) => named_list_of(rt, &settings, names),
         None => Ok(list_text(rt.alloc(), &settings, None)?),
     }
+}
+
+/// The list of settings, with the names of the list in a file.
+fn named_list_of<'a, S: System>(
+    rt: &S,
+    settings: &Settings,
+    names: &'a str,
+) -> Result<Vec<u8>, Unlisted<'a>> {
+    let named = list_in(rt, settings, names, false)?;
+    Ok(list_text(rt.alloc(), settings, Some(&named))?)
 }
 
 /// The settings of a list, for the station and the outstations of a settings file: a text that reads back as the list's
@@ -154,11 +148,29 @@ fn settings_of_list<'a, S: System>(
     file: &'a str,
     site: &'a str,
 ) -> Result<Vec<u8>, Unlisted<'a>> {
-    let (octets, settings) = read_site(rt, site)?;
-    let list = list_in(rt, &settings, file, true)?;
-    let site = str::from_utf8(octets.as_slice()).unwrap_or("");
+    let octets = read_octets(rt, site)?;
+    match read_settings(rt.alloc(), octets.as_slice()) {
+        Ok(settings) => settings_at(rt, file, octets.as_slice(), &settings),
+        Err(why) => Err(Unlisted::File(BadFile::Refused(octets, why))),
+    }
+}
+
+/// The settings of a list, for the site whose settings these octets are.
+fn settings_at<'a, S: System>(
+    rt: &S,
+    file: &'a str,
+    site: &[u8],
+    settings: &Settings,
+) -> Result<Vec<u8>, Unlisted<'a>> {
+    let list = list_in(rt, settings, file, true)?;
+    let site = str::from_utf8(site).unwrap_or("");
     let text = settings_text(rt.alloc(), site, &list)?;
-    match read_settings(rt.alloc(), text.as_bytes()) {
+    read_back(rt.alloc(), text, &list)
+}
+
+/// The octets of a settings text, if it reads back as the rows of a list.
+fn read_back<'a>(alloc: Global, text: String, list: &List) -> Result<Vec<u8>, Unlisted<'a>> {
+    match read_settings(alloc, text.as_bytes()) {
         Ok(read) if list.is_of(&read) => Ok(text.into_bytes()),
         Ok(_) => Err(Unlisted::Otherwise),
         Err(why) => Err(Unlisted::Settings(text, why)),

@@ -1,17 +1,27 @@
-//! What a program writes that was refused something: a word on standard output, and a sentence on standard error. Where
-//! the sentence can't be written there is nobody to tell, and the rest is as ever.
+//! What a program writes: its text on standard output; or, where it was refused something, a word there, and a sentence on
+//! standard error. Where the sentence can't be written there is nobody to tell, and the rest is as ever.
 
 use crate::settings_file::BadFile;
 use crate::system::System;
 use gw_checker::{Unusable, explain};
 use std::fmt::Display;
-use std::{io, str};
+use std::io::{self, Write};
+use std::str;
 
 /// The status of a program that was refused something.
 pub const REFUSED: u8 = 1;
 
 /// The status of a command line that asks for nothing.
 pub const USAGE: u8 = 2;
+
+/// Writes a text on standard output; gives the status.
+pub fn write_text<S: System>(rt: &S, text: &[u8]) -> io::Result<u8> {
+    let mut writer = io::writer(rt);
+    if writer.write_all(text).is_err() || writer.flush().is_err() {
+        return Ok(REFUSED);
+    }
+    Ok(0)
+}
 
 /// Writes what was refused; gives the status.
 pub fn refuse_for<S: System>(rt: &S, what: &str) -> io::Result<u8> {

@@ -3,7 +3,7 @@
 use crate::failure_of_file::FileFailure;
 use crate::system::System;
 use gw_checker::{LONGEST_FILE, Unusable, read_settings};
-use gw_journal::Failure;
+use gw_figures::Failure;
 use gw_map::Settings;
 use gw_text::Plain;
 use std::fs::File;
