@@ -4,15 +4,14 @@ ghost use Rattle.std.specs.Thread.{IsSend, IsSync};
 use crate::ending::Ending;
 use crate::host::Host;
 use crate::house::{House, is_made};
-use crate::lookout::{ANY_TIME, tell_dropped};
 use crate::passes::{Passes, PumpPass};
 use crate::sockets::ClientSocket;
 use gw_journal::{Cause, JournalEvent};
-use gw_peers::{ClientCard, Desk, Lobby, Visit, shut};
+use gw_peers::{Desk, Lobby, Visit, shut};
 use gw_readers::{
     Calls, Clock, Course, Gate, Pass, Step, Why, WorkerEnd, client_reader, client_writer,
 };
-use std::net::{SocketAddr, TcpStream};
+use std::net::TcpStream;
 use std::rt::Clock as Sleeps;
 use std::sync::Wait;
 use std::thread;
@@ -120,17 +119,14 @@ pub fn serve_place<
     G: Gate + Sync,
 >(house: &House<'_, S, R, C, G>, lobby: &Lobby, passes: ClientPasses<L>) -> ClientPasses<L> {
     let mut passes = passes;
-    let place = passes.writer.client();
-    let Some(card) = house.desk.board.client(place) else {
-        return passes;
-    };
-    for _ in house.desk.rt.forever() {
-        let Some(visit) = lobby.next(house.desk.rt, place) else {
+    let (desk, place) = (house.desk, passes.writer.client());
+    for _ in desk.rt.forever() {
+        let Some(visit) = lobby.next(desk.rt, place) else {
             break;
         };
-        passes = serve_visit(house, card, place, passes, visit);
-        if lobby.free(house.desk.rt, place, house.desk.clock.wall()) {
-            house.desk.tell(JournalEvent::PlaceFree);
+        passes = serve_visit(house, place, passes, visit);
+        if lobby.free(desk.rt, place, desk.clock.wall()) {
+            desk.tell(JournalEvent::PlaceFree);
         }
     }
     passes
@@ -145,77 +141,34 @@ fn serve_visit<
     G: Gate + Sync,
 >(
     house: &House<'_, S, R, C, G>,
-    card: &ClientCard,
     client: u8,
     passes: ClientPasses<L>,
     visit: Visit,
 ) -> ClientPasses<L> {
     let mut passes = passes;
-    let (desk, address) = (house.desk, visit.address);
+    let desk = house.desk;
     let moment = desk.clock.moment();
     if !is_made(house, &mut passes.reader, Step::ClientUp { client, moment }) {
         shut(&visit.stream);
-        card.free(desk.rt);
+        desk.free_place(client);
         return passes;
     }
-    begin(desk, card, client, address);
+    desk.client_connected(client, visit.address);
     let (passes, met) = serve_stream(house, client, passes, &visit.stream);
     // What became of it by the steps of others is told before.
     desk.board.sequence.settle(desk.rt);
-    let cause = cause_of(desk, card, house.shared.stopping(), met);
-    tell_dropped(desk, card, client, &house.shared.figures(desk.rt), ANY_TIME);
-    end(desk, card, client, address, cause);
+    let cause = cause_of(desk, client, house.shared.stopping(), met);
+    let dropped = house.shared.figures(desk.rt).dropped;
+    desk.client_lost(client, visit.address, cause, &dropped);
     passes
-}
-
-/// Notes that a client is up, and tells of it, unless connections from its address end again and again.
-fn begin<R: Wait, C: Clock>(
-    desk: &Desk<'_, R, C>,
-    card: &ClientCard,
-    client: u8,
-    address: SocketAddr,
-) {
-    let wall = desk.clock.wall();
-    let is_told = desk.board.callers.lock(desk.rt).begin(wall, address);
-    card.figures.lock(desk.rt).connected(address, wall, is_told);
-    if is_told {
-        desk.tell(JournalEvent::ClientConnected { client, address });
-    }
-}
-
-/// Notes that the connection to a client has ended, and tells of it, likewise.
-fn end<R: Wait, C: Clock>(
-    desk: &Desk<'_, R, C>,
-    card: &ClientCard,
-    client: u8,
-    address: SocketAddr,
-    cause: Cause,
-) {
-    let wall = desk.clock.wall();
-    let was_told = card.figures.lock(desk.rt).ended(&cause);
-    card.free(desk.rt);
-    let told = desk
-        .board
-        .callers
-        .lock(desk.rt)
-        .end(wall, client, address, cause, was_told);
-    if let Some(loss) = told {
-        desk.tell(JournalEvent::ClientLost {
-            client,
-            address,
-            loss,
-        });
-    }
 }
 
 /// Why a connection ended, by what its workers met, and by what became of its client: it was made to leave, a tick closed it, or
 /// the server is to end.
-fn cause_of<R: Wait, C: Clock>(
-    desk: &Desk<'_, R, C>,
-    card: &ClientCard,
-    stopping: bool,
-    met: Cause,
-) -> Cause {
+fn cause_of<R: Wait, C>(desk: &Desk<'_, R, C>, client: u8, stopping: bool, met: Cause) -> Cause {
+    let Some(card) = desk.board.client(client) else {
+        return met;
+    };
     match met {
         _ if stopping => Cause::GatewayEnds,
         Cause::GatewayEnds if card.has_expired(desk.rt) => Cause::Closed(Why::Timer),

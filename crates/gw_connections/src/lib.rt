@@ -18,6 +18,6 @@ pub use gw_readers::{
 };
 pub use host::Host;
 pub use house::House;
-pub use lookout::{ANY_TIME, look_at_callers, look_at_outstations, look_out};
+pub use lookout::look_out;
 pub use outstation::{OutstationPasses, serve_outstation};
 pub use passes::{Passes, PollPass, PumpPass};

@@ -9,8 +9,8 @@ use crate::passes::{Passes, PollPass};
 use crate::sockets::OutstationSocket;
 use dnp_receive::Receiver;
 use gw_ends::{LineCourse, Opened, Sending, open_line};
-use gw_journal::{Cause, Failure, JournalEvent};
-use gw_peers::{Desk, Plan, shut};
+use gw_journal::{Cause, Failure};
+use gw_peers::{Plan, shut};
 use gw_readers::{
     Calls, Clock, Course, Gate, Line, Pass, Patience, Step, WorkerEnd, outstation_reader,
     outstation_writer, pause,
@@ -144,27 +144,11 @@ pub fn serve_outstation<
             Ok(stream) => {
                 passes = serve_connection(house, outstation, plan, passes, &stream);
             }
-            Err(cause) => tell_unreachable(house.desk, outstation, cause),
+            Err(cause) => house.desk.outstation_unreachable(outstation, cause),
         }
         pause::<L, S, R>(house.desk.rt, house.shared);
     }
     passes
-}
-
-/// Tells that no connection could be made, and why, unless that was told not long ago.
-fn tell_unreachable<R: Wait, C: Clock>(desk: &Desk<'_, R, C>, outstation: u8, cause: Failure) {
-    let Some(card) = desk.board.outstation(outstation) else {
-        return;
-    };
-    let wall = desk.clock.wall();
-    let told = card.figures.lock(desk.rt).unreached(wall, cause);
-    if let Some(left_out) = told {
-        desk.tell(JournalEvent::OutstationUnreachable {
-            outstation,
-            cause,
-            left_out,
-        });
-    }
 }
 
 /// Connects to an outstation: to the first of its addresses that answers.
@@ -207,39 +191,15 @@ fn serve_connection<
         shut(stream);
         return passes;
     }
-    begin(house.desk, outstation);
+    house.desk.outstation_connected(outstation);
     let (passes, met) = serve_stream(house, outstation, plan, passes, stream);
     let cause = if house.shared.stopping() {
         Cause::GatewayEnds
     } else {
         plan.in_words(met)
     };
-    end(house.desk, outstation, cause);
+    house.desk.outstation_lost(outstation, cause);
     passes
-}
-
-/// Notes that a connection to an outstation stands, and tells of it, unless such connections end again and again.
-fn begin<R: Wait, C: Clock>(desk: &Desk<'_, R, C>, outstation: u8) {
-    let Some(card) = desk.board.outstation(outstation) else {
-        return;
-    };
-    let wall = desk.clock.wall();
-    let is_told = card.figures.lock(desk.rt).connected(wall);
-    if is_told {
-        desk.tell(JournalEvent::OutstationConnected { outstation });
-    }
-}
-
-/// Notes that the connection to an outstation has ended, and tells of it, likewise.
-fn end<R: Wait, C: Clock>(desk: &Desk<'_, R, C>, outstation: u8, cause: Cause) {
-    let Some(card) = desk.board.outstation(outstation) else {
-        return;
-    };
-    let wall = desk.clock.wall();
-    let told = card.figures.lock(desk.rt).lost(wall, cause);
-    if let Some(loss) = told {
-        desk.tell(JournalEvent::OutstationLost { outstation, loss });
-    }
 }
 
 /// Serves an outstation on its connection, until that ends; why it ended.

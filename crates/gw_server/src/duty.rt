@@ -99,7 +99,8 @@ impl<L: Course> Returned<L> {
 
 /// Adds a duty for each thread, in the order in which they end: that of standard input, where its end is awaited,
 /// those of the places and of the outstations, the last ones first, the clock's, that of the status, where it is
-/// served, that of who follows the news, where anybody does, the lookout's and the journal's. `passes` are those of all actors; they are used up.
+/// served, that of who follows the news, where anybody does, the lookout's and the journal's. `passes` are those of all
+/// actors; they are used up.
 pub fn add_duties<L: Course>(
     duties: &mut Vec<Duty<L>>,
     passes: &mut Vec<Pass<L>>,

@@ -14,4 +14,4 @@ pub use gw_journal::{Journal, JournalEvent};
 pub use gw_peers::Network;
 pub use gw_watch::{EventQueue, Identity, ProcessFiles, Values};
 pub use options::Options;
-pub use serving::{journal_of, open, serve, serve_as};
+pub use serving::{journal_of, serve, serve_as};

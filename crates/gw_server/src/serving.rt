@@ -8,12 +8,9 @@ ghost use Rattle.gw_server.specs.Roles.{actors_of, roles_of, AreFirst};
 use crate::duty::{Duty, Returned, add_duties};
 use crate::options::Options;
 use gw_clock::Clock;
-use gw_connections::{
-    ANY_TIME, Calls, Closed, Course, Gate, Host, House, Pass, Shared, look_at_callers,
-    look_at_outstations,
-};
+use gw_connections::{Calls, Closed, Course, Gate, Host, House, Pass, Shared};
 use gw_hub::Hub;
-use gw_journal::{Journal, JournalEvent};
+use gw_journal::Journal;
 use gw_map::Settings;
 use gw_model::{CLIENTS, Memory};
 use gw_peers::{Board, Desk, Lobby, Plan, accept, plans_of};
@@ -21,7 +18,6 @@ use gw_running::close;
 use gw_shared::{Made, Opened, open_course};
 use gw_watch::{Identity, Site, Watched};
 use std::alloc::Global;
-use std::io;
 use std::marker::Brand;
 use std::net::TcpListener;
 use std::sync::ledger::Blank;
@@ -36,11 +32,6 @@ const NOBODY: Identity<'static> = Identity {
     version: "",
     commit: None,
 };
-
-/// Listens where the settings say.
-pub fn open<R: Host>(rt: &R, settings: &Settings) -> io::Result<TcpListener> {
-    TcpListener::bind(rt, settings.station().listen.as_str())
-}
 
 /// Serves control centres on a listener, and outstations, as settings say: until so many connections of control centres
 /// have ended, or for ever. Gives how many calls were made on the core: in one history of steps, from the first state,
@@ -315,10 +306,7 @@ fn end_all<L: Course, S: Calls<L>, R: Host, C: Clock, G>(
     shared.stop();
     let others = threads.len().saturating_sub(1);
     join_last(desk.rt, threads, others, passes);
-    look_at_outstations(desk, ANY_TIME);
-    look_at_callers(desk, ANY_TIME);
-    desk.tell(JournalEvent::Stopped);
-    desk.journal.close(desk.rt);
+    desk.close();
     join_last(desk.rt, threads, 1, passes);
 }
 
