@@ -33,6 +33,8 @@ HINDERED, RESUMED = "events aren't written: nobody reads the pipe", "events are 
 LEFT_OUT = r"\d+ observations? left out of the events"
 # How long an answer may take while others are taken slowly, in seconds.
 PROMPT = 1.0
+# Within how long an event comes to whoever writes it, in seconds.
+LOOKING = 0.5
 # How long a program that checks its addresses may take to write a megabyte of events.
 WRITING = 25.0
 
@@ -389,10 +391,40 @@ def events_to_nobody(scene):
     """a pipe that never has a reader: control centres are served as ever, and the gateway ends"""
     outstation, path = scene.outstation(), pipe(scene)
     # Told at the end, unless the pipe takes what waits before it is closed.
-    scene.passed_over += r"|events aren't written: nobody reads the pipe|\d+ observations left out of the events"
+    scene.passed_over += f"|{HINDERED}|{LEFT_OUT}"
     scene.start(options=["--events", str(path)])
     link, centre = scene.accept(outstation), scene.started()
     link.send(response(0, ON))
     centre.takes(BINARY_ON)
     link.connection.close()
     scene.lost(outstation, "lost: end of input")
+
+
+@case
+def events_to_a_deleted_pipe(scene):
+    """a pipe that is deleted while its first event waits for a reader doesn't keep the gateway from its end"""
+    outstation, path = scene.outstation(), pipe(scene)
+    scene.passed_over += f"|{HINDERED}|{LEFT_OUT}"
+    scene.start(options=["--events", str(path)])
+    link = scene.accept(outstation)
+    link.send(response(0, ON))
+    time.sleep(LOOKING)
+    path.unlink()
+
+
+@case
+def events_to_another_pipe(scene):
+    """a pipe that is made where one was deleted has the events that waited for its reader"""
+    outstation, path = scene.outstation(), pipe(scene)
+    scene.passed_over += f"|{HINDERED}|{LEFT_OUT}"
+    scene.start(options=["--events", str(path)])
+    link = scene.accept(outstation)
+    link.send(response(0, ON))
+    time.sleep(LOOKING)
+    path.unlink()
+    os.mkfifo(path)
+    pipe_end = os.open(path, os.O_RDONLY | os.O_NONBLOCK)
+    got = read_lines(pipe_end, 2)
+    os.close(pipe_end)
+    same("the columns, and an event", [it.split(",", 1)[1] for it in got],
+         [COLUMNS.split(",", 1)[1], f",,0,,1,{BINARY},,single point,on,,spontaneous"])

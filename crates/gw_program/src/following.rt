@@ -1,8 +1,8 @@
 //! Who follows the values of points besides control centres, as the options of `gateway run` say.
 
-use crate::event_file::EventFile;
 use gw_command_line::RunOptions;
 use gw_commands::Names;
+use gw_event_file::EventFile;
 use gw_map::Settings;
 use gw_model::Memory;
 use gw_server::{EventQueue, Values};
@@ -57,9 +57,12 @@ impl Followed {
 pub fn event_file<'a>(
     rt: &'a HostRuntime,
     asked: &RunOptions<'a>,
-) -> Result<Option<EventFile<'a>>, Obstacle<'a>> {
-    match asked.events {
-        Some(path) => Ok(Some(EventFile::open(rt, path, asked.events_keep)?)),
-        None => Ok(None),
+) -> Result<Option<EventFile<'a, HostRuntime>>, Obstacle<'a>> {
+    let Some(path) = asked.events else {
+        return Ok(None);
+    };
+    match EventFile::open(rt, path, asked.events_keep) {
+        Ok(file) => Ok(Some(file)),
+        Err(failure) => Err(Obstacle::Events(path, failure)),
     }
 }

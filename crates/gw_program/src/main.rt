@@ -1,8 +1,6 @@
 //! The gateway's programs.
 #![tactic(auto)]
 
-mod event_file;
-mod event_writing;
 mod following;
 mod recording;
 mod running;

@@ -1,18 +1,16 @@
 //! `gateway run`.
 
-use crate::event_file::{EventFile, nudge};
-use crate::event_writing::EventWriter;
 use crate::following::{Followed, event_file};
 use crate::recording::{Recording, tell_end};
 use crate::shown::Shown;
 use gw_capture::{Capture, OnePiece, Pieces};
 use gw_command_line::RunOptions;
 use gw_commands::{Named, Names};
+use gw_event_file::{EventFile, EventWriter};
 use gw_map::Settings;
 use gw_model::Memory;
 use gw_server::{
-    Clock, Closed, EventQueue, Gate, Host, Journal, OpenGate, Options, SystemClock, journal_of,
-    serve_as,
+    Clock, Closed, Gate, Host, Journal, OpenGate, Options, SystemClock, journal_of, serve_as,
 };
 use gw_startup::{
     Entrances, PieceFiles, Source, Unserved, check_followers, check_records, folder_files,
@@ -21,11 +19,7 @@ use gw_startup::{
 use std::alloc::Global;
 use std::fs::File;
 use std::net::TcpListener;
-use std::time::Duration;
 use std::{io, thread};
-
-/// The milliseconds between two looks at whether all events are written.
-const NUDGE_MS: u64 = 50;
 
 /// Serves control centres and outstations as a settings file says, until so many connections of control centres have
 /// ended, or standard input has, or for ever; gives the status.
@@ -169,12 +163,11 @@ impl<'a, H: Host> Site<'a, H> {
         source: Source<'_>,
         asked: &RunOptions<'b>,
         followed: &Followed,
-        file: EventFile<'_>,
+        file: EventFile<'_, HostRuntime>,
     ) -> Result<Closed, Unserved<'b>> {
         let Some(queue) = &followed.queue else {
             return self.serve_asked(rt, settings, source, asked);
         };
-        let is_pipe = file.is_pipe();
         let writer = EventWriter::new(
             self.alloc,
             self.host,
@@ -190,26 +183,12 @@ impl<'a, H: Host> Site<'a, H> {
             move || {
                 let closed = self.serve_asked(rt, settings, source, asked);
                 queue.close(self.host);
-                if is_pipe {
-                    self.await_written(rt, queue, asked.events.unwrap_or(""));
-                }
                 closed
             },
         );
         self.journal.close(self.host);
         self.journal.write_on(self.host);
         closed
-    }
-
-    /// Waits until no more events are written to a pipe. Who waits for a reader of it, which may never come, goes on.
-    fn await_written(&self, rt: &HostRuntime, queue: &EventQueue, pipe: &str) {
-        for _ in self.host.forever() {
-            if queue.is_finished() {
-                return;
-            }
-            nudge(rt, pipe);
-            thread::sleep(self.host, Duration::from_millis(NUDGE_MS));
-        }
     }
 
     /// Serves, with a gate.

@@ -1,10 +1,14 @@
-//! `gateway run --events`: spontaneous observations as lines of a file, written by a thread of its own.
+//! Spontaneous observations as lines of a file, written by a thread of its own.
 
-use crate::event_file::EventFile;
+use crate::file::EventFile;
+use gw_clock::Clock;
 use gw_journal::{Journal, JournalEvent, WriteTrouble};
-use gw_server::{Clock, EventQueue, Host};
 use gw_values::{Entry, Event, EventLine, Gap, GapLine, Points};
+use gw_watch::EventQueue;
 use std::alloc::{AllocError, Global};
+use std::fs::File;
+use std::rt::{Clock as Sleeps, Files};
+use std::sync::Wait;
 use std::time::Duration;
 use std::{io, thread};
 
@@ -21,14 +25,14 @@ const PIECES: u32 = 10;
 
 /// Writes events to a file as they come.
 #[derive(Drop)]
-pub struct EventWriter<'a, H, C> {
+pub struct EventWriter<'a, S, H, C> {
     alloc: Global,
     host: &'a H,
     clock: &'a C,
     points: &'a Points,
     queue: &'a EventQueue,
     journal: &'a Journal,
-    file: EventFile<'a>,
+    file: EventFile<'a, S>,
     text: String,
     /// What was left out in front of the next line, which the file doesn't tell yet.
     gap: Gap,
@@ -39,7 +43,7 @@ pub struct EventWriter<'a, H, C> {
     told_at: Option<u64>,
 }
 
-impl<'a, H: Host, C: Clock> EventWriter<'a, H, C> {
+impl<'a, S: Files<File = File> + AllocGlobal, H: Wait + Sleeps, C: Clock> EventWriter<'a, S, H, C> {
     /// Nothing is written yet.
     pub fn new(
         alloc: Global,
@@ -48,8 +52,8 @@ impl<'a, H: Host, C: Clock> EventWriter<'a, H, C> {
         points: &'a Points,
         queue: &'a EventQueue,
         journal: &'a Journal,
-        file: EventFile<'a>,
-    ) -> EventWriter<'a, H, C> {
+        file: EventFile<'a, S>,
+    ) -> EventWriter<'a, S, H, C> {
         EventWriter {
             alloc,
             host,
@@ -75,7 +79,6 @@ impl<'a, H: Host, C: Clock> EventWriter<'a, H, C> {
             }
         }
         writer.tell_left_out(0);
-        writer.queue.finish();
     }
 
     /// Writes what waited longest, or waits for something; whether more may come.
@@ -100,7 +103,7 @@ impl<'a, H: Host, C: Clock> EventWriter<'a, H, C> {
     /// Writes events, and what was left out between them.
     fn write(&mut self, entries: &[Entry]) {
         let written = match self.put(entries) {
-            Ok(()) => self.file.write(self.text.as_str()),
+            Ok(()) => self.hand_over(),
             Err(error) => Err(error.into()),
         };
         match written {
@@ -113,6 +116,17 @@ impl<'a, H: Host, C: Clock> EventWriter<'a, H, C> {
             }
             Err(error) => self.fail(&error, entries),
         }
+    }
+
+    /// Writes the lines that are made. Where they go to a pipe that nobody reads, they wait until somebody does, or no more come.
+    fn hand_over(&mut self) -> io::Result<()> {
+        for _ in self.host.forever() {
+            if !self.file.awaits_reader() || self.queue.is_closed(self.host) {
+                break;
+            }
+            self.pause();
+        }
+        self.file.write(self.text.as_str())
     }
 
     /// A write of these failed.
