@@ -1,5 +1,5 @@
--- A worked run of one outstation and one client, which sets 5002 by SELECT and OPERATE three times: the outstation does
--- it, it refuses it, and the session ends before it is asked.
+-- Worked runs of one outstation and one client, which sets 5002 by SELECT and OPERATE three times: the outstation does
+-- it, it refuses it, and the session ends before it is asked; and of sessions that end while it is asked.
 use Rattle.std.specs.Prelude.{ℕ, Bool, List, [], ◌∷◌, ◌++◌, map}
 use Rattle.std.proofs.Common.{lit≤}
 use Rattle.iec_apci.specs.declared.apdu.Apdu.TheVariants.{I, U}
@@ -11,7 +11,7 @@ use Rattle.gw_steps.specs.declared.effects.Fate.{Fate}
 use Rattle.gw_steps.specs.declared.effects.OrderEnd.{OrderEnd}
 use Rattle.gw_steps.specs.declared.step.Step.{Step}
 use Rattle.gw_steps.specs.declared.step.Step.TheVariants as steps
-use Rattle.gw_steps.specs.Example.{fragment_of, outstation_up, poll, response, starting}
+use Rattle.gw_steps.specs.Example.{fragment_of, outstation_up, poll, pump, response, starting}
 use Rattle.gw_steps.specs.State.{State, at_first}
 use Rattle.gw_steps.specs.Steps.{after, outcome}
 use Rattle.gw_steps.specs.Runs.{Entry}
@@ -52,6 +52,11 @@ let_go = refused ++ sets 2 ∷ stops ∷ []
 -- its session ends while the order is under way
 abbrev pub left : List Step
 left = sets 0 ∷ poll ∷ stops ∷ answers 0xC0 0 ∷ poll ∷ answers 0xC1 0 ∷ []
+
+-- what it was told of the first order isn't acknowledged in 15 seconds, and the answer for the second one doesn't come in
+-- the last 5 of them
+abbrev pub closed : List Step
+closed = done ++ pump ∷ pump ∷ sets 1 ∷ steps.Poll 0 10000 0 ∷ steps.Tick 15000 ∷ []
 
 -- what became of orders in a history, the newest first
 abbrev pub fates : List Entry → List (ℕ × Fate)

@@ -5,3 +5,4 @@ pub mod Endings
 pub mod Refusals
 pub mod Tells
 pub mod Example
+pub mod Reasons

@@ -5,6 +5,7 @@
 
 mod examples;
 mod laws;
+mod reason_examples;
 
 pub use examples::{
     endings_by_example, lateness_by_example, replies_by_example, rousing_by_example,
@@ -12,4 +13,8 @@ pub use examples::{
 pub use laws::{
     ended_sessions_are_told, negatives_have_reasons, nobody_is_left_asleep, replies_tell_fates,
     unanswered_are_late,
+};
+pub use reason_examples::{
+    answers_by_example, each_fate_by_example, let_go_by_example, refusals_by_example,
+    returns_by_example,
 };
