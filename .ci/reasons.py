@@ -4,7 +4,7 @@ import re
 
 from peers import (
     ACTIVATION, CANCEL, CANCELLED, CONFIRMATION, DIRECT_OPERATE, NEGATIVE, OPERATE, PATIENCE, SELECT, START, START_CON, STOP,
-    STOP_CON, analog, asdu, latch, response, same, spelled,
+    STOP_CON, analog, asdu, latch, response, same, spelled, under,
 )
 from scene import CONTROLS, DOUBLE, OFF_COMMAND, OFF_REFUSED, OFF_WORDS, SETPOINT, SWITCH, case
 from told import LOOKS, MINUTE, WALL
@@ -14,6 +14,17 @@ DOUBLED = 5004
 REFUSED = CONFIRMATION | NEGATIVE
 # How many orders wait for an outstation at most, and how many commands follow each other.
 WAITING, COMMANDS = 16, 40
+# The types that the gateway takes of a control centre; the others in control direction by their short names (IEC 60870-5-101,
+# 7.2.1; IEC 60870-5-104, 8), and some that have none there.
+TAKEN = {45, 46, 49, 100, 101, 102}
+UNKNOWN = {
+    47: " (C_RC_NA_1)", 48: " (C_SE_NA_1)", 50: " (C_SE_NC_1)", 51: " (C_BO_NA_1)", 58: " (C_SC_TA_1)", 59: " (C_DC_TA_1)",
+    60: " (C_RC_TA_1)", 61: " (C_SE_TA_1)", 62: " (C_SE_TB_1)", 63: " (C_SE_TC_1)", 64: " (C_BO_TA_1)", 103: " (C_CS_NA_1)",
+    104: " (C_TS_NA_1)", 105: " (C_RP_NA_1)", 106: " (C_CD_NA_1)", 107: " (C_TS_TA_1)", 110: " (P_ME_NA_1)",
+    111: " (P_ME_NB_1)", 112: " (P_ME_NC_1)", 113: " (P_AC_NA_1)", 0: "", 1: "", 52: "", 65: "", 120: "", 255: "",
+}
+# The common address under which the second of two control centres asks.
+OTHER_STATION = 258
 
 
 def refused(scene, centre, kind, address, element, words, reason, cause=ACTIVATION, told=(REFUSED, "confirmed")):
@@ -168,4 +179,45 @@ def unknown_types(scene):
     other = scene.started()
     ask(other, 200, 1)
     scene.told(f"{other.name} asks: type 200 1, station 1: unknown type")
+    link.quiet(0.1)
+
+
+@case
+def each_unknown_type(scene):
+    """each type that isn't known in control direction, by its name, its object's address and its station: a line a minute for
+    each of two control centres; and of all types within a minute the first one, the last one, and how many came between"""
+    scene.bend(WALL)
+    _, link, centre = scene.operating(sessions=2)
+    centres, at = [(1, centre), (OTHER_STATION, scene.started())], WALL
+
+    def asks(station, it, kind, address, size=None):
+        """A control centre asks for something, which comes back; with so many octets, if that is said."""
+        octets = lambda cause: under(station, asdu(kind, cause, address, "00"))[:size]
+        it.ask(octets(ACTIVATION))
+        it.takes(octets(NEGATIVE | 44))
+
+    line = lambda station, it, what: f"{it.name} asks: type {what}, station {station}: unknown type"
+    for number, (kind, name) in enumerate(UNKNOWN.items()):
+        for station, it in centres:
+            asks(station, it, kind, 70_000 + number)
+            scene.told(line(station, it, f"{kind}{name} {70_000 + number}"))
+        at += MINUTE
+        scene.clock.set(at)
+    # Without an address, and with two of its octets.
+    for size in (6, 8):
+        for station, it in centres:
+            asks(station, it, 58, 0, size)
+            scene.told(line(station, it, "58 (C_SC_TA_1)"))
+        at += MINUTE
+        scene.clock.set(at)
+    unknown = [it for it in range(256) if it not in TAKEN]
+    for kind in unknown:
+        for station, it in centres:
+            asks(station, it, kind, kind + 1)
+    for station, it in centres:
+        scene.told(line(station, it, "0 1"))
+    scene.tells_nothing(LOOKS)
+    scene.clock.set(at + MINUTE)
+    for station, it in centres:
+        scene.told(line(station, it, "255 256") + f", and {len(unknown) - 2} more")
     link.quiet(0.1)
