@@ -27,8 +27,12 @@ QUEUE = 20_000
 OPERATED, OPERATE_EVERY = 9002, 0.2
 # Where the honest outstation's total is, which is at no address of two octets; its event, which says that it rolled over.
 TOTAL, TOTAL_EVENT = 70_000, bytes.fromhex("16 01 17 01 09 21 2A 00 00 00")
-# Threads and files beside those of its peers.
-THREADS, FILES = 16, 16
+# How many control centres have a place at most, how many that were accepted wait for one, and how many requests to the status
+# are answered at a time.
+PLACES, WAITING, ANSWERED = 8, 8, 4
+# The process's own threads: for who connects, the clock, the log, the lookout, standard input and the record. Its own files:
+# standard input, output and error, what it listens on, two that tell what it takes, and two of a record.
+THREADS, FILES = 6, 9
 
 
 class Picture:
@@ -193,6 +197,22 @@ class House:
         queue, steps, taken = 3 * QUEUE * 96, self.recorder * 4096, 8 * 2**14 * 96
         return (1 + self.is_checked) * (24 * 2**20 + queue + steps + taken) // 1024
 
+    @property
+    def most_threads(self):
+        """How many threads the process may have: beside its own those of the status, and of each peer's place one that lasts,
+        one of its connection, and one of the connection before, which has ended, and may still be there for the system."""
+        return THREADS + ANSWERED + 3 * (1 + OUTSTATIONS + PLACES)
+
+    @property
+    def most_files(self):
+        """How many files the process may have: beside its own a connection to each outstation, two handles of each connection
+        at a place, one of each that waits and of each request that is answered, and one of what it listens on, for a moment.
+
+        A connection that has ended keeps its place until both of its workers are back, so hostile control centres that connect
+        at once again may come to have all places, and others wait: sooner where the machine is slow.
+        """
+        return FILES + 1 + OUTSTATIONS + 2 * PLACES + WAITING + ANSWERED + 1
+
     def start(self):
         """Starts the gateway and the honest peers, and waits until all outstations are connected."""
         Path(self.file).write_text(self.setup.text)
@@ -260,8 +280,8 @@ class House:
         self.most = max(self.most, memory)
         if memory > self.memory_bound:
             raise Difference(f"memory: {memory} kB, the bound is {self.memory_bound} kB")
-        if threads > 12 + 2 * (1 + OUTSTATIONS) + THREADS or files > FILES + 1 + OUTSTATIONS + 9:
-            raise Difference(f"{threads} threads, {files} files")
+        if threads > self.most_threads or files > self.most_files:
+            raise Difference(f"{threads} threads, at most {self.most_threads}; {files} files, at most {self.most_files}")
 
     def judge_rows(self):
         """The honest control centre's last values are the gateway's."""
