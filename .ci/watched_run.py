@@ -1,5 +1,6 @@
 """A `gateway run` with random settings between hostile and honest peers, as `.ci/fuzz` has it: what it tells, what the
 honest peers are served, and the memory, threads and files that it has."""
+import math
 import queue
 import random
 import re
@@ -192,10 +193,12 @@ class House:
         Beside 24 MB for the program and its threads: what waits for clients, in the core and two copies of the
         recorder's; each step that the recorder keeps, of which the largest has the octets of a fragment; and eight
         fragments of 16,296 packed inputs that are taken. An observation and a report have up to 96 octets. A program that
-        checks its addresses keeps what it has released for a while, and notes beside its memory: it may have twice as much.
+        checks its addresses has none: it keeps what it has released, and notes beside its memory.
         """
+        if self.is_checked:
+            return math.inf
         queue, steps, taken = 3 * QUEUE * 96, self.recorder * 4096, 8 * 2**14 * 96
-        return (1 + self.is_checked) * (24 * 2**20 + queue + steps + taken) // 1024
+        return (24 * 2**20 + queue + steps + taken) // 1024
 
     @property
     def most_threads(self):
