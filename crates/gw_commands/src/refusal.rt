@@ -5,7 +5,7 @@ use crate::settings_file::BadFile;
 use crate::system::System;
 use gw_checker::{Unusable, explain};
 use std::fmt::Display;
-use std::io::{self, Write};
+use std::io::{self, BufWriter, Write};
 use std::str;
 
 /// The status of a program that was refused something.
@@ -16,7 +16,7 @@ pub const USAGE: u8 = 2;
 
 /// Writes a text on standard output; gives the status.
 pub fn write_text<S: System>(rt: &S, text: &[u8]) -> io::Result<u8> {
-    let mut writer = io::writer(rt);
+    let mut writer = BufWriter::new(rt.alloc(), io::writer(rt))?;
     if writer.write_all(text).is_err() || writer.flush().is_err() {
         return Ok(REFUSED);
     }
