@@ -1,10 +1,13 @@
 -- The two laws of an echo: what is read stands so, and what stands so is read.
-use Rattle.std.proofs.Common.{◌≡◌, ℕ, ◌+◌, ◌-◌, ◌*◌, ◌<◌, ◌≤◌, true, eqb, List, [], ◌∷◌, ◌++◌, length, take, drop, Option, Some, None, Result, Ok, Err, refl, sym, ap, subst, ◌∙◌, append_assoc, arith}
+use Rattle.std.proofs.Common.{◌≡◌, ℕ, ◌+◌, ◌-◌, ◌*◌, ◌<◌, ◌≤◌, true, eqb, List}
+use Rattle.std.proofs.Common.{[], ◌∷◌, ◌++◌, length, take, drop, Option, Some, None, Result}
+use Rattle.std.proofs.Common.{Ok, Err, refl, sym, ap, subst, ◌∙◌, append_assoc, arith}
 use Rattle.std.specs.Prelude.{option_and_then, slice_index, IfSome}
 use Rattle.std.specs.Result.{result_unwrap_or}
 use Rattle.std.specs.List.{AllByRecursion, filter_map, cons_option}
 use Rattle.std.proofs.lemmas.Bool.{eqb-true, eq-eqb, ltb-true}
-use Rattle.std.proofs.lemmas.List.{take_at, drop_at, take_all, take_more, take-append-drop, length-append, length-take-le, length-drop, drop-drop, get_or-append-add}
+use Rattle.std.proofs.lemmas.List.{take_at, drop_at, take_all, take_more, take-append-drop, length-append}
+use Rattle.std.proofs.lemmas.List.{length-take-le, length-drop, drop-drop, get_or-append-add}
 use Rattle.std.proofs.lemmas.List.Elements.{recursion_from_All, All-from_recursion, filter_map-append}
 use Rattle.dnp_objects.specs.declared.fault.ObjectFault.{ObjectFault}
 use Rattle.dnp_objects.specs.declared.header.Header.{Header}
@@ -15,7 +18,8 @@ use Rattle.dnp_objects.specs.Headers.{number, headers_of, IsPart}
 use Rattle.dnp_objects.proofs.Results.{map_some, when_some}
 use Rattle.dnp_objects.proofs.HeaderLaws.{IsPart-found, IsPart-again}
 use Rattle.dnp_app.specs.declared.echoed.Echo.{Echo}
-use Rattle.dnp_app.specs.Echo.{body_of, StandsAlone, IsEcho, command_octets, command_length, echo_with, first_echo, lone_echo, lone_echoes, only_one, echo_of, HasCommandsWithin}
+use Rattle.dnp_app.specs.Echo.{body_of, StandsAlone, IsEcho, command_octets, command_length, echo_with}
+use Rattle.dnp_app.specs.Echo.{first_echo, lone_echo, lone_echoes, only_one, echo_of, HasCommandsWithin}
 use Rattle.dnp_app.proofs.Rows.{is_long, object_of-long}
 use Rattle.dnp_app.proofs.Within.{all_within}
 

@@ -1,5 +1,6 @@
 -- What the requests that operate an output give, read again from their octets.
-use Rattle.std.proofs.Common.{◌≡◌, ◌↔◌, ℕ, ℤ, pos, negsuc, ◌+◌, ◌^◌, ◌<◌, Bool, true, false, List, [], ◌∷◌, ◌++◌, drop, Option, Some, None, refl, sym, ap, subst, ◌∙◌, arith, inl, inr}
+use Rattle.std.proofs.Common.{◌≡◌, ◌↔◌, ℕ, ℤ, pos, negsuc, ◌+◌, ◌^◌, ◌<◌, Bool, true, false, List, []}
+use Rattle.std.proofs.Common.{◌∷◌, ◌++◌, drop, Option, Some, None, refl, sym, ap, subst, ◌∙◌, arith, inl, inr}
 use Rattle.std.specs.Prelude.{◌==◌, option_map}
 use Rattle.std.specs.Int.{w16, w32, to_le_bytes, cast_unsigned}
 use Rattle.std.specs.Int.RustNames.{FitsSigned}
@@ -23,7 +24,8 @@ use Rattle.dnp_app.specs.Asking.{Asking, asking_of}
 use Rattle.dnp_app.specs.Control.{control_of}
 use Rattle.dnp_app.specs.Echo.{body_of, command_in, echo_taken, is_same_echo, is_taken}
 use Rattle.dnp_app.specs.Operating.{operating, operating_of, operates_for, operation_of, operated_in, act_in, signed, switched}
-use Rattle.dnp_app.specs.Requests.{control_octets, command_object, function_code, group_of, variation_of, octets_of, on_time, relay_code, request}
+use Rattle.dnp_app.specs.Requests.{control_octets, command_object, function_code, group_of}
+use Rattle.dnp_app.specs.Requests.{variation_of, octets_of, on_time, relay_code, request}
 
 -- ---- numbers
 

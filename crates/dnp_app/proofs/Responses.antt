@@ -1,5 +1,6 @@
 -- A response is read.
-use Rattle.std.proofs.Common.{◌≡◌, ◌≢◌, ℕ, ◌-◌, ◌≤◌, List, [], ◌∷◌, length, take, drop, ltb, true, false, Option, Result, Ok, Err, refl, sym, ap, subst, ◌∙◌}
+use Rattle.std.proofs.Common.{◌≡◌, ◌≢◌, ℕ, ◌-◌, ◌≤◌, List, [], ◌∷◌, length, take, drop}
+use Rattle.std.proofs.Common.{ltb, true, false, Option, Result, Ok, Err, refl, sym, ap, subst, ◌∙◌}
 use Rattle.std.specs.Prelude.{IfErr, IsErrOf}
 use Rattle.std.proofs.lemmas.Bool.{le-ltb}
 use Rattle.std.specs.Result.{result_unwrap_or}
@@ -13,7 +14,8 @@ use Rattle.dnp_points.specs.Meaning.{Means, reports_of}
 use Rattle.dnp_points.proofs.ReportLaws.{meaning-again}
 use Rattle.dnp_app.specs.declared.fault.AppFault.{AppFault}
 use Rattle.dnp_app.specs.declared.fault.AppFault.TheVariants.{Short, NotResponse, Object, Memory}
-use Rattle.dnp_app.specs.Response.{Fragment, fragment_of, fragment_spelt, IsResponse, is_response, StoresHeader, IsRefused, response_of, is_memory}
+use Rattle.dnp_app.specs.Response.{Fragment, fragment_of, fragment_spelt, IsResponse}
+use Rattle.dnp_app.specs.Response.{is_response, StoresHeader, IsRefused, response_of, is_memory}
 use Rattle.dnp_app.specs.declared.echoed.Echo.{Echo}
 use Rattle.dnp_app.specs.Echo.{headers_in, lone_echoes, only_one, echo_of}
 use Rattle.dnp_app.specs.SteppedOver.{stepped_over_count, stepped_over_count_of}

@@ -1,11 +1,13 @@
 -- What follows from the rows of the object library, one by one.
-use Rattle.std.proofs.Common.{◌≡◌, ℕ, Bool, true, false, ◌&&◌, ◌||◌, List, [], ◌∷◌, Option, Some, None, refl, arith, cond}
+use Rattle.std.proofs.Common.{◌≡◌, ℕ, Bool, true, false, ◌&&◌, ◌||◌, List}
+use Rattle.std.proofs.Common.{[], ◌∷◌, Option, Some, None, refl, arith, cond}
 use Rattle.std.specs.Prelude.{◌==◌, nat_lt}
 use Rattle.std.proofs.lemmas.Bool.{and_parts}
 use Rattle.dnp_objects.specs.declared.object.Size.{Size}
 use Rattle.dnp_objects.specs.declared.object.Size.TheVariants.{Octets, Bits}
 use Rattle.dnp_objects.specs.declared.object.Access.TheVariants.{RangesAndIndexes}
-use Rattle.dnp_objects.specs.Library.{Variation, Role, Point, CommonTime, Echo, SteppedOver, Whole, Timeless, entry, plain, objects, object_among, object_of, size_of}
+use Rattle.dnp_objects.specs.Library.{Variation, Role, Point, CommonTime, Echo, SteppedOver, Whole}
+use Rattle.dnp_objects.specs.Library.{Timeless, entry, plain, objects, object_among, object_of, size_of}
 
 -- a command has an octet at least
 abbrev pub is_long : Role → Size → Bool

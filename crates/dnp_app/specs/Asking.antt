@@ -1,6 +1,7 @@
 -- What a request asks for, read from its octets (IEEE Std 1815, 4.2.2, 4.4 and Annex A), apart from how this master
 -- writes one.
-use Rattle.std.specs.Prelude.{ℕ, ◌-◌, ◌%◌, Bool, true, false, ◌&&◌, ◌==◌, nat_le, List, [], ◌∷◌, length, Option, Some, None, option_map, if◌then◌else◌}
+use Rattle.std.specs.Prelude.{ℕ, ◌-◌, ◌%◌, Bool, true, false, ◌&&◌, ◌==◌, nat_le, List, []}
+use Rattle.std.specs.Prelude.{◌∷◌, length, Option, Some, None, option_map, if◌then◌else◌}
 use Rattle.dnp_objects.specs.Headers.{number}
 use Rattle.dnp_app.specs.declared.response.ApplicationControl.{ApplicationControl}
 use Rattle.dnp_app.specs.Control.{control_of}

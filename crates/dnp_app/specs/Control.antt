@@ -1,5 +1,6 @@
 -- The octets of an application control field (IEEE Std 1815, 4.2.2.4).
-use Rattle.std.specs.Prelude.{ℕ, ◌+◌, ◌/◌, ◌%◌, Bool, ◌==◌, nat_le, List, [], ◌∷◌, Option, Some, None, slice_index, if◌then◌else◌}
+use Rattle.std.specs.Prelude.{ℕ, ◌+◌, ◌/◌, ◌%◌, Bool, ◌==◌, nat_le, List, []}
+use Rattle.std.specs.Prelude.{◌∷◌, Option, Some, None, slice_index, if◌then◌else◌}
 use Rattle.dnp_app.specs.declared.response.ApplicationControl.{ApplicationControl}
 
 -- bit 7 FIR, 6 FIN, 5 CON, 4 UNS, 0 to 3 the sequence number

@@ -1,6 +1,7 @@
 -- What a request operates, read from its octets (IEEE Std 1815, 4.2.2, 4.4 and Annex A), apart from how this master
 -- writes one.
-use Rattle.std.specs.Prelude.{ℕ, ℤ, pos, ◌-ℤ◌, nat_lt, true, false, ◌&&◌, ◌==◌, List, [], ◌∷◌, Option, Some, None, option_map, if◌then◌else◌}
+use Rattle.std.specs.Prelude.{ℕ, ℤ, pos, ◌-ℤ◌, nat_lt, true, false, ◌&&◌, ◌==◌, List}
+use Rattle.std.specs.Prelude.{[], ◌∷◌, Option, Some, None, option_map, if◌then◌else◌}
 use Rattle.gw_model.specs.Optional.{◌>>=◌}
 use Rattle.gw_model.specs.declared.control.Shape.TheVariants.{Latch, Pulse}
 use Rattle.gw_model.specs.declared.control.Act.{Act}

@@ -1,6 +1,7 @@
 -- The requests of this master by their octets (IEEE Std 1815, 4.2.2 and 4.4): one fragment each, which asks for no
 -- confirmation.
-use Rattle.std.specs.Prelude.{ℕ, ◌+◌, ◌-◌, ◌/◌, ◌%◌, Bool, List, [], ◌∷◌, ◌++◌, length, replicate, take, Some, None, if◌then◌else◌}
+use Rattle.std.specs.Prelude.{ℕ, ◌+◌, ◌-◌, ◌/◌, ◌%◌, Bool, List, [], ◌∷◌, ◌++◌}
+use Rattle.std.specs.Prelude.{length, replicate, take, Some, None, if◌then◌else◌}
 use Rattle.std.specs.Int.{w16, w32, to_le_bytes, cast_unsigned}
 use Rattle.gw_model.specs.declared.control.Shape.{Shape}
 use Rattle.gw_model.specs.declared.control.Shape.TheVariants.{Latch, Pulse}

@@ -1,6 +1,7 @@
 -- What a response fragment is (IEEE Std 1815, 4.2.2): application control, function 129 or 130, two octets of
 -- internal indications, and an object part.
-use Rattle.std.specs.Prelude.{◌≡◌, ℕ, ◌≤◌, Bool, true, false, ◌||◌, ◌==◌, List, [], length, drop, slice_index, Result, Ok, Err, nat_lt, if◌then◌else◌}
+use Rattle.std.specs.Prelude.{◌≡◌, ℕ, ◌≤◌, Bool, true, false, ◌||◌, ◌==◌, List, [], length}
+use Rattle.std.specs.Prelude.{drop, slice_index, Result, Ok, Err, nat_lt, if◌then◌else◌}
 use Rattle.std.specs.Result.{result_unwrap_or}
 use Rattle.gw_model.specs.declared.point.Report.{Report}
 use Rattle.dnp_objects.specs.declared.fault.ObjectFault.{ObjectFault}

@@ -8,7 +8,8 @@ ghost use Rattle.dnp_app.specs.Control.{control_of, confirmation_of, confirm_of}
 ghost use Rattle.dnp_app.specs.Echo.{echo_of};
 ghost use Rattle.dnp_app.specs.Response.{response_of, fragment_of, is_unsolicited};
 ghost use Rattle.dnp_app.specs.SteppedOver.{stepped_over_count_of};
-ghost use Rattle.dnp_app.specs.Requests.{clear_restart_octets, disable_octets, enable_octets, read_octets, record_time_octets, write_time_octets};
+ghost use Rattle.dnp_app.specs.Requests.{clear_restart_octets, disable_octets, enable_octets};
+ghost use Rattle.dnp_app.specs.Requests.{read_octets, record_time_octets, write_time_octets};
 ghost use Rattle.dnp_app.specs.Asking.{asking_of, asks_for, Read, WriteIndication};
 ghost use Rattle.gw_model.specs.declared.control.Act.TheVariants.{Switch, Set};
 ghost use Rattle.gw_model.specs.declared.control.Shape.TheVariants.{Latch, Pulse};

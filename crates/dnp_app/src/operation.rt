@@ -1,7 +1,7 @@
 //! The requests that operate an output, and the echoes that say that it was done (IEEE Std 1815, 4.4 and Annex A).
 ghost use Rattle.std.specs.Prelude.{◌≡◌, ◌<◌, Some};
-ghost use Rattle.dnp_app.specs.Requests.{bound_request, command_object, control_octets, function_code, group_of, octets_of, on_time, relay_code};
-ghost use Rattle.dnp_app.specs.Requests.{request as request_of};
+ghost use Rattle.dnp_app.specs.Requests.{bound_request, command_object, control_octets, function_code};
+ghost use Rattle.dnp_app.specs.Requests.{group_of, octets_of, on_time, relay_code, request as request_of};
 ghost use Rattle.dnp_app.specs.Operating.{operates_for, operating_of, request_intent};
 ghost use Rattle.dnp_app.specs.Echo.{body_of, is_taken};
 

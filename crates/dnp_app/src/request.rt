@@ -1,5 +1,6 @@
 //! The requests of the master (IEEE Std 1815, 4.4), by their octets.
-ghost use Rattle.std.specs.Prelude.{◌≡◌, ◌+◌, ◌≤◌, ◌<◌, ◌%◌, [], ◌∷◌, length, take, true, false, if◌then◌else◌};
+ghost use Rattle.std.specs.Prelude.{◌≡◌, ◌+◌, ◌≤◌, ◌<◌, ◌%◌, [], ◌∷◌};
+ghost use Rattle.std.specs.Prelude.{length, take, true, false, if◌then◌else◌};
 ghost use Rattle.dnp_app.specs.Requests.{
   clear_restart_octets,
   disable_octets,

@@ -1,5 +1,6 @@
 //! Responses of an outstation.
-ghost use Rattle.std.specs.Prelude.{◌≡◌, ◌≤◌, ◌<◌, length, drop, List, [], ◌∷◌, Ok, Some, IfOk, IfErr, IfSome, IsErrOf, slice_index, true};
+ghost use Rattle.std.specs.Prelude.{◌≡◌, ◌≤◌, ◌<◌, length, drop, List, [], ◌∷◌, Ok};
+ghost use Rattle.std.specs.Prelude.{Some, IfOk, IfErr, IfSome, IsErrOf, slice_index, true};
 ghost use Rattle.gw_model.specs.Outcome.{Gives};
 ghost use Rattle.dnp_app.specs.declared.echoed.Echo.{Echo as Echoed};
 ghost use Rattle.dnp_app.specs.Response.{Fragment, IsResponse, IsRefused, StoresHeader, is_unsolicited, response_of, is_memory};

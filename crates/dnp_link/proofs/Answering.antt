@@ -1,9 +1,11 @@
 -- What a feed answers, and what it holds back then.
-use Rattle.std.proofs.Common.{◌≡◌, ℕ, ◌≤◌, ◌<◌, Bool, true, false, if◌then◌else◌, List, length, drop, Option, Some, None, IfSome, refl, sym, ◌∙◌, ap, subst, arith, length-drop}
+use Rattle.std.proofs.Common.{◌≡◌, ℕ, ◌≤◌, ◌<◌, Bool, true, false, if◌then◌else◌, List, length, drop}
+use Rattle.std.proofs.Common.{Option, Some, None, IfSome, refl, sym, ◌∙◌, ap, subst, arith, length-drop}
 use Rattle.dnp_link.specs.declared.event.SkipReason.TheVariants.{BadBlockCrc}
 use Rattle.dnp_link.specs.declared.reading.Front.TheVariants.{Whole}
 use Rattle.dnp_link.specs.Frame.{FrameContent, block_count, frame_length, are_sealed}
-use Rattle.dnp_link.specs.Stream.{Event, Framed, Dropped, content_at, user_length, octets_used_by, event_at_front, octets_used_if_any, reading_with_first, reading, reading_with_front}
+use Rattle.dnp_link.specs.Stream.{Event, Framed, Dropped, content_at, user_length, octets_used_by, event_at_front}
+use Rattle.dnp_link.specs.Stream.{octets_used_if_any, reading_with_first, reading, reading_with_front}
 use Rattle.dnp_link.specs.Front.{event_shown_by, Tells}
 use Rattle.dnp_link.proofs.Front.{front_taken, length-user_data_in_blocks}
 use Rattle.dnp_link.proofs.Streams.{taken_some, reading_event, reading_none}

@@ -1,6 +1,8 @@
 -- Blocks of user data, one at a time.
-use Rattle.std.proofs.Common.{◌≡◌, ℕ, suc, ◌+◌, ◌-◌, ◌*◌, ◌≤◌, ◌<◌, min, true, false, ◌&&◌, List, ◌++◌, length, take, drop, refl, sym, ◌∙◌, ap, arith, append_assoc, length-append}
-use Rattle.std.proofs.lemmas.List.{take-take, length-take-le, length-take, length-drop, append-nil, drop_all, take_at, drop_at, drop-drop, take_rest, take_min, drop_min}
+use Rattle.std.proofs.Common.{◌≡◌, ℕ, suc, ◌+◌, ◌-◌, ◌*◌, ◌≤◌, ◌<◌, min, true, false, ◌&&◌, List}
+use Rattle.std.proofs.Common.{◌++◌, length, take, drop, refl, sym, ◌∙◌, ap, arith, append_assoc, length-append}
+use Rattle.std.proofs.lemmas.List.{take-take, length-take-le, length-take, length-drop, append-nil}
+use Rattle.std.proofs.lemmas.List.{drop_all, take_at, drop_at, drop-drop, take_rest, take_min, drop_min}
 use Rattle.std.proofs.lemmas.Slice.{take-put_mid}
 use borrow.Rule.Slice.PartMut.{put_mid}
 use Rattle.dnp_link.specs.Frame.{block_count, octets_with_crc, blocks, is_sealed, are_sealed, user_data_in_blocks}

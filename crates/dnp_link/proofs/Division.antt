@@ -1,5 +1,6 @@
 -- Long division leaves the remainder, and no other polynomial is one; how it goes on as the message grows.
-use Rattle.std.proofs.Common.{◌≡◌, ℕ, zero, suc, ◌+◌, ◌-◌, ◌≤◌, Bool, true, false, List, [], ◌∷◌, ◌++◌, length, refl, sym, ◌∙◌, ap, arith, append_assoc, zero-add, suc-add, length-append}
+use Rattle.std.proofs.Common.{◌≡◌, ℕ, zero, suc, ◌+◌, ◌-◌, ◌≤◌, Bool, true, false, List, [], ◌∷◌, ◌++◌}
+use Rattle.std.proofs.Common.{length, refl, sym, ◌∙◌, ap, arith, append_assoc, zero-add, suc-add, length-append}
 use Rattle.dnp_link.specs.Polynomial.{differs, plus, zeros, below_16, generator, times_generator, IsRemainder, long_division, remainder}
 
 pub differs_comm : (a b : Bool) → differs a b ≡ differs b a

@@ -1,5 +1,7 @@
 -- What the front of octets shows: how much it takes, and that octets behind it change nothing.
-use Rattle.std.proofs.Common.{◌≡◌, ℕ, zero, suc, ◌+◌, ◌-◌, ◌*◌, ◌≤◌, ◌<◌, min, Bool, true, false, not, ◌||◌, List, [], ◌∷◌, ◌++◌, length, take, drop, Option, Some, None, refl, ap, arith, length-append, nat_lt, slice_index, if◌then◌else◌, IfSome, subst, ltb-false, le-ltb, eqb}
+use Rattle.std.proofs.Common.{◌≡◌, ℕ, zero, suc, ◌+◌, ◌-◌, ◌*◌, ◌≤◌, ◌<◌, min, Bool, true, false, not}
+use Rattle.std.proofs.Common.{◌||◌, List, [], ◌∷◌, ◌++◌, length, take, drop, Option, Some, None, refl, ap, arith}
+use Rattle.std.proofs.Common.{length-append, nat_lt, slice_index, if◌then◌else◌, IfSome, subst, ltb-false, le-ltb, eqb}
 use Rattle.std.proofs.lemmas.List.{length-take, length-drop, take-append-le, drop-append-le, get_or_append_left}
 use Rattle.dnp_link.specs.Frame.{FrameContent, block_count, frame_length, is_sealed, are_sealed, user_data_in_blocks}
 use Rattle.dnp_link.specs.Stream.{Event, Framed, Dropped, octets_used_by, is_bad_start, user_length, content_at, event_at_front}

@@ -1,11 +1,16 @@
 -- What is read as a frame was written so.
-use Rattle.std.proofs.Common.{◌≡◌, ℕ, zero, suc, ◌+◌, ◌-◌, ◌*◌, ◌/◌, ◌%◌, ◌≤◌, ◌<◌, min, Bool, true, false, not, ◌&&◌, ◌||◌, List, [], ◌∷◌, ◌++◌, length, take, drop, Option, Some, None, refl, sym, ◌∙◌, ap, arith, append_assoc, nat_lt, slice_index, subst, ltb-false, eqb, inl, inr}
-use Rattle.std.proofs.lemmas.List.{take-take, length-take-le, length-take, length-drop, take_at, drop_at, get_or-take, get_or-drop, take_all, take-append-drop, nil_from_length, drop_more, drop_all, append-nil, get_or_past}
+use Rattle.std.proofs.Common.{◌≡◌, ℕ, zero, suc, ◌+◌, ◌-◌, ◌*◌, ◌/◌, ◌%◌, ◌≤◌, ◌<◌, min, Bool, true}
+use Rattle.std.proofs.Common.{false, not, ◌&&◌, ◌||◌, List, [], ◌∷◌, ◌++◌, length, take, drop, Option, Some, None, refl}
+use Rattle.std.proofs.Common.{sym, ◌∙◌, ap, arith, append_assoc, nat_lt, slice_index, subst, ltb-false, eqb, inl, inr}
+use Rattle.std.proofs.lemmas.List.{take-take, length-take-le, length-take, length-drop, take_at}
+use Rattle.std.proofs.lemmas.List.{drop_at, get_or-take, get_or-drop, take_all, take-append-drop}
+use Rattle.std.proofs.lemmas.List.{nil_from_length, drop_more, drop_all, append-nil, get_or_past}
 use Rattle.std.proofs.lemmas.Bool.{cases_lt, eqb-true}
 use Rattle.std.proofs.Math.Seq.{take-add}
 use Rattle.dnp_link.specs.declared.event.SkipReason.{SkipReason}
 use Rattle.dnp_link.specs.Crc.{crc_of}
-use Rattle.dnp_link.specs.Frame.{FrameContent, block_count, header, octets_with_crc, blocks, frame, frame_length, is_sealed, are_sealed, user_data_in_blocks}
+use Rattle.dnp_link.specs.Frame.{FrameContent, block_count, header, octets_with_crc, blocks}
+use Rattle.dnp_link.specs.Frame.{frame, frame_length, is_sealed, are_sealed, user_data_in_blocks}
 use Rattle.dnp_link.specs.Stream.{Event, Framed, Dropped, is_bad_start, user_length, content_at, event_at_front}
 use Rattle.gw_model.specs.Octets.{AreOctets}
 use Rattle.dnp_link.specs.Laws.{BeginsWith}

@@ -1,8 +1,12 @@
 -- A frame that was written is read back, and what is read as a frame was written so.
-use Rattle.std.proofs.Common.{◌≡◌, ℕ, zero, suc, ◌+◌, ◌-◌, ◌*◌, ◌/◌, ◌%◌, min, Bool, true, false, not, List, [], ◌∷◌, ◌++◌, length, get_or, take, drop, Some, refl, sym, ◌∙◌, ap, arith, append_assoc, length-append, nat_lt, le-ltb, eq-eqb}
-use Rattle.std.proofs.lemmas.List.{length-take, length-drop, take_at, drop_at, get_or_at, get_or-append-add, take-append-drop, nil_from_length}
+use Rattle.std.proofs.Common.{◌≡◌, ℕ, zero, suc, ◌+◌, ◌-◌, ◌*◌, ◌/◌, ◌%◌, min, Bool, true}
+use Rattle.std.proofs.Common.{false, not, List, [], ◌∷◌, ◌++◌, length, get_or, take, drop, Some, refl}
+use Rattle.std.proofs.Common.{sym, ◌∙◌, ap, arith, append_assoc, length-append, nat_lt, le-ltb, eq-eqb}
+use Rattle.std.proofs.lemmas.List.{length-take, length-drop, take_at, drop_at, get_or_at}
+use Rattle.std.proofs.lemmas.List.{get_or-append-add, take-append-drop, nil_from_length}
 use Rattle.dnp_link.specs.Crc.{crc_of}
-use Rattle.dnp_link.specs.Frame.{FrameContent, block_count, header, octets_with_crc, blocks, frame, frame_length, is_sealed, are_sealed, user_data_in_blocks}
+use Rattle.dnp_link.specs.Frame.{FrameContent, block_count, header, octets_with_crc, blocks}
+use Rattle.dnp_link.specs.Frame.{frame, frame_length, is_sealed, are_sealed, user_data_in_blocks}
 use Rattle.dnp_link.specs.Stream.{Framed, octets_used_by, content_at, event_at_front, reading_with_first, reading}
 use Rattle.dnp_link.proofs.Blocks.{length-octets_with_crc}
 use Rattle.dnp_link.proofs.Front.{chain, front-append}

@@ -1,8 +1,10 @@
 -- The reading of a stream goes on event by event, and doesn't depend on how the stream is cut.
-use Rattle.std.proofs.Common.{◌≡◌, ℕ, zero, suc, ◌+◌, ◌≤◌, ◌<◌, List, [], ◌∷◌, ◌++◌, length, get_or, take, drop, Option, Some, None, refl, sym, ◌∙◌, ap, inl, inr, ◌⊎◌, arith, length-drop}
+use Rattle.std.proofs.Common.{◌≡◌, ℕ, zero, suc, ◌+◌, ◌≤◌, ◌<◌, List, [], ◌∷◌, ◌++◌, length, get_or}
+use Rattle.std.proofs.Common.{take, drop, Option, Some, None, refl, sym, ◌∙◌, ap, inl, inr, ◌⊎◌, arith, length-drop}
 use Rattle.std.proofs.lemmas.List.{drop-append-le, take_more, flat_map_more}
 use Rattle.std.specs.List.{flat_map}
-use Rattle.dnp_link.specs.Stream.{Event, Framed, Dropped, octets_used_by, event_at_front, Reading, octets_used_if_any, reading_with_first, reading_within, reading, reading_with_front, joined_readings}
+use Rattle.dnp_link.specs.Stream.{Event, Framed, Dropped, octets_used_by, event_at_front, Reading, octets_used_if_any}
+use Rattle.dnp_link.specs.Stream.{reading_with_first, reading_within, reading, reading_with_front, joined_readings}
 use Rattle.dnp_link.proofs.Front.{front_taken, front-append}
 
 -- what an optional event makes of the reading

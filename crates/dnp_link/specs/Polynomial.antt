@@ -1,5 +1,6 @@
 -- Polynomials over GF(2), the field of two elements: lists of coefficients, the highest power first.
-use Rattle.std.specs.Prelude.{◌≡◌, ℕ, zero, suc, Bool, true, false, not, List, [], ◌∷◌, ◌++◌, length, replicate, if◌then◌else◌}
+use Rattle.std.specs.Prelude.{◌≡◌, ℕ, zero, suc, Bool, true, false, not, List}
+use Rattle.std.specs.Prelude.{[], ◌∷◌, ◌++◌, length, replicate, if◌then◌else◌}
 
 -- the sum of two elements of GF(2)
 abbrev pub differs : Bool → Bool → Bool

@@ -1,5 +1,6 @@
 -- What a secondary station does with a frame (IEEE Std 1815-2012, clause 9).
-use Rattle.std.specs.Prelude.{ℕ, ◌/◌, ◌%◌, Bool, true, false, not, ◌&&◌, ◌==◌, List, [], Option, Some, None, if◌then◌else◌}
+use Rattle.std.specs.Prelude.{ℕ, ◌/◌, ◌%◌, Bool, true, false, not, ◌&&◌, ◌==◌}
+use Rattle.std.specs.Prelude.{List, [], Option, Some, None, if◌then◌else◌}
 use Rattle.dnp_link.specs.Frame.{FrameContent, frame, frame_content}
 use Rattle.dnp_link.specs.Polynomial.{differs}
 use Rattle.dnp_link.specs.Station.{Station}

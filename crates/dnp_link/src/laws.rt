@@ -4,7 +4,8 @@ ghost use Rattle.std.specs.List.{flat_map};
 ghost use Rattle.gw_model.specs.Octets.{AreOctets};
 ghost use Rattle.dnp_link.specs.Polynomial.{IsRemainder, remainder};
 ghost use Rattle.dnp_link.specs.Frame.{FrameContent, frame};
-ghost use Rattle.dnp_link.specs.Stream.{Framed, octets_used_if_any, event_at_front, reading, reading_with_front, reading_with_first, joined_readings};
+ghost use Rattle.dnp_link.specs.Stream.{Framed, octets_used_if_any, event_at_front, reading};
+ghost use Rattle.dnp_link.specs.Stream.{reading_with_front, reading_with_first, joined_readings};
 ghost use Rattle.dnp_link.specs.Laws.{BeginsWith};
 ghost use Rattle.dnp_link.specs.FrameContent.{event_content};
 

@@ -1,5 +1,6 @@
 //! Reading the front of a stream.
-ghost use Rattle.std.specs.Prelude.{◌≡◌, ◌+◌, ◌-◌, ◌*◌, ◌≤◌, length, drop, IsTrue, IfSome, option_map, if◌then◌else◌};
+ghost use Rattle.std.specs.Prelude.{◌≡◌, ◌+◌, ◌-◌, ◌*◌, ◌≤◌, length, drop};
+ghost use Rattle.std.specs.Prelude.{IsTrue, IfSome, option_map, if◌then◌else◌};
 ghost use Rattle.dnp_link.specs.Frame.{block_count, frame_length, is_sealed as is_sealed_lem, are_sealed, user_data_in_blocks};
 ghost use Rattle.dnp_link.specs.Stream.{event_at_front, content_at, user_length, is_bad_start as is_bad_start_lem};
 ghost use Rattle.dnp_link.specs.FrameContent.{content, IsPadded};

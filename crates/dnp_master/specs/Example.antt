@@ -10,7 +10,8 @@ use Rattle.dnp_app.specs.Response.{Fragment}
 use Rattle.dnp_app.specs.Requests.{octets_of}
 use Rattle.dnp_master.specs.declared.answered.CommandAnswer.{CommandAnswer}
 use Rattle.dnp_master.specs.declared.verdict.Verdict.{Verdict}
-use Rattle.dnp_master.specs.Master.{Master, master_down, master_after_up, master_after_next, master_after_order, master_after_tick, request_given, request_ordered, ended_by_loss, ended_by_tick}
+use Rattle.dnp_master.specs.Master.{Master, master_down, master_after_up, master_after_next, master_after_order}
+use Rattle.dnp_master.specs.Master.{master_after_tick, request_given, request_ordered, ended_by_loss, ended_by_tick}
 use Rattle.dnp_master.specs.Answers.{command_answer}
 use Rattle.dnp_master.specs.Fragments.{master_after_fragment, verdict_of}
 

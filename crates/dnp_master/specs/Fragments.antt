@@ -1,5 +1,6 @@
 -- What becomes of a fragment, and what an accepted one changes (IEEE Std 1815, 4.2.2 and clause 5).
-use Rattle.std.specs.Prelude.{ℕ, ◌/◌, ◌%◌, ◌==◌, Bool, true, false, ◌&&◌, ◌||◌, not, List, slice_index, Option, Some, None, if◌then◌else◌}
+use Rattle.std.specs.Prelude.{ℕ, ◌/◌, ◌%◌, ◌==◌, Bool, true, false, ◌&&◌, ◌||◌, not}
+use Rattle.std.specs.Prelude.{List, slice_index, Option, Some, None, if◌then◌else◌}
 use Rattle.std.specs.Str.{bytes_eq}
 use Rattle.gw_model.specs.declared.control.Ended.{Ended}
 use Rattle.gw_model.specs.declared.poll.Poll.{Poll}
@@ -12,7 +13,8 @@ use Rattle.dnp_master.specs.declared.verdict.Verdict.{Verdict}
 use Rattle.dnp_master.specs.declared.verdict.Verdict.TheVariants.{Accepted, Repeated, Ignored}
 use Rattle.dnp_master.specs.declared.verdict.Ignored.TheVariants.{NoRequest, WrongSequence, WrongFirst}
 use Rattle.dnp_master.specs.declared.task.Task.{Task}
-use Rattle.dnp_master.specs.declared.task.Task.TheVariants.{ClearRestart, WriteTime, RecordTime, Disable, Integrity, Enable, EventPoll, Command}
+use Rattle.dnp_master.specs.declared.task.Task.TheVariants.{ClearRestart, WriteTime, RecordTime, Disable}
+use Rattle.dnp_master.specs.declared.task.Task.TheVariants.{Integrity, Enable, EventPoll, Command}
 use Rattle.dnp_master.specs.declared.due.DueTasks.{DueTasks}
 use Rattle.dnp_master.specs.declared.exchange.Awaited.{Awaited}
 use Rattle.dnp_master.specs.declared.exchange.Exchange.{Exchange}

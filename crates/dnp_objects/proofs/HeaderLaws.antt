@@ -1,19 +1,24 @@
 -- The two laws of headers: what is read is spelled so, and what is spelled so is read.
-use Rattle.std.proofs.Common.{◌≡◌, ℕ, zero, suc, ◌+◌, ◌-◌, ◌<◌, ◌≤◌, false, ltb, List, [], ◌∷◌, ◌++◌, length, take, drop, Some, Result, Ok, Err, refl, sym, ap, subst, ◌∙◌, append_assoc, arith}
+use Rattle.std.proofs.Common.{◌≡◌, ℕ, zero, suc, ◌+◌, ◌-◌, ◌<◌, ◌≤◌, false, ltb, List, [], ◌∷◌, ◌++◌}
+use Rattle.std.proofs.Common.{length, take, drop, Some, Result, Ok, Err, refl, sym, ap, subst, ◌∙◌, append_assoc, arith}
 use Rattle.std.specs.Global.{Vec}
 use Rattle.std.specs.Prelude.{IfOk, is_ok}
 use Rattle.std.proofs.lemmas.Bool.{ltb-false, le-ltb}
 use Rattle.std.proofs.lemmas.List.{take_at, drop_at, take-append-drop, length-append, length-take, length-drop, drop-drop}
 use Rattle.gw_model.specs.Outcome.{◌>>=◌, Gives}
 use Rattle.dnp_objects.specs.declared.fault.ObjectFault.{ObjectFault}
-use Rattle.dnp_objects.specs.declared.fault.HeaderFault.TheVariants.{UnknownObject, UnknownQualifier, ShortRange, StopBeforeStart, ShortData}
+use Rattle.dnp_objects.specs.declared.fault.HeaderFault.TheVariants.{UnknownObject, UnknownQualifier}
+use Rattle.dnp_objects.specs.declared.fault.HeaderFault.TheVariants.{ShortRange, StopBeforeStart, ShortData}
 use Rattle.dnp_objects.specs.declared.header.Header.{Header}
 use Rattle.dnp_objects.specs.declared.object.Form.{Form}
 use Rattle.dnp_objects.specs.declared.range.Range.{Range}
 use Rattle.dnp_objects.specs.declared.range.Range.TheVariants.{StartStop, Count}
 use Rattle.dnp_objects.specs.declared.range.RangeField.{RangeField}
 use Rattle.dnp_objects.specs.Library.{Variation, object_of, form_of, form_of_row, size_of}
-use Rattle.dnp_objects.specs.Headers.{is_memory, some_or, number, octets_of, codes_of, is_among, qualifiers, range_of, range_for, start_stop, range_at, header_and_rest, header_with, header_at, headers_from, headers_of, body_length, octets_after, IsRange, StandsAt, AreHeaders, IsPart, IsStoredAt}
+use Rattle.dnp_objects.specs.Headers.{is_memory, some_or, number, octets_of, codes_of, is_among, qualifiers}
+use Rattle.dnp_objects.specs.Headers.{range_of, range_for, start_stop, range_at, header_and_rest}
+use Rattle.dnp_objects.specs.Headers.{header_with, header_at, headers_from, headers_of, body_length}
+use Rattle.dnp_objects.specs.Headers.{octets_after, IsRange, StandsAt, AreHeaders, IsPart, IsStoredAt}
 use Rattle.dnp_objects.proofs.Results.{bind_ok, guard_ok, otherwise_ok, some_ok, map_some, when_some}
 use Rattle.dnp_objects.proofs.HeaderLoop.{step}
 

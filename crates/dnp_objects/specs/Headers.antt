@@ -1,10 +1,13 @@
 -- Object headers (IEEE Std 1815, 4.2.2.7): how one is spelled, and reading them from left to right with the
 -- first fault that is met.
-use Rattle.std.specs.Prelude.{◌≡◌, ℕ, zero, suc, ◌+◌, ◌-◌, ◌*◌, ◌/◌, ◌<◌, ◌≤◌, Bool, true, false, ◌||◌, ◌==◌, List, [], ◌∷◌, ◌++◌, length, take, drop, Option, Some, None, Result, Ok, Err, IsOk, nat_lt, if◌then◌else◌}
+use Rattle.std.specs.Prelude.{◌≡◌, ℕ, zero, suc, ◌+◌, ◌-◌, ◌*◌, ◌/◌, ◌<◌, ◌≤◌, Bool}
+use Rattle.std.specs.Prelude.{true, false, ◌||◌, ◌==◌, List, [], ◌∷◌, ◌++◌, length, take, drop}
+use Rattle.std.specs.Prelude.{Option, Some, None, Result, Ok, Err, IsOk, nat_lt, if◌then◌else◌}
 use Rattle.gw_model.specs.Outcome.{◌>>=◌}
 use Rattle.dnp_objects.specs.declared.fault.ObjectFault.{ObjectFault}
 use Rattle.dnp_objects.specs.declared.fault.HeaderFault.{HeaderFault}
-use Rattle.dnp_objects.specs.declared.fault.HeaderFault.TheVariants.{UnknownObject, UnknownQualifier, ShortRange, StopBeforeStart, ShortData, TooMany, Memory}
+use Rattle.dnp_objects.specs.declared.fault.HeaderFault.TheVariants.{UnknownObject, UnknownQualifier, ShortRange}
+use Rattle.dnp_objects.specs.declared.fault.HeaderFault.TheVariants.{StopBeforeStart, ShortData, TooMany, Memory}
 use Rattle.dnp_objects.specs.declared.header.Header.{Header}
 use Rattle.dnp_objects.specs.declared.object.Size.{Size}
 use Rattle.dnp_objects.specs.declared.object.Size.TheVariants.{Octets, Bits}

@@ -2,7 +2,8 @@
 ghost use Rattle.std.specs.Prelude.{◌≡◌, [], ◌∷◌, Ok, Some, None, true, replicate};
 ghost use Rattle.std.specs.List.{concat};
 ghost use Rattle.std.specs.Option.{option_map};
-ghost use Rattle.dnp_objects.specs.declared.fault.HeaderFault.TheVariants.{UnknownObject, UnknownQualifier, ShortRange, StopBeforeStart, ShortData, TooMany};
+ghost use Rattle.dnp_objects.specs.declared.fault.HeaderFault.TheVariants.{UnknownObject, UnknownQualifier, ShortRange};
+ghost use Rattle.dnp_objects.specs.declared.fault.HeaderFault.TheVariants.{StopBeforeStart, ShortData, TooMany};
 ghost use Rattle.dnp_objects.specs.declared.object.Size.TheVariants.{Octets, Bits};
 ghost use Rattle.dnp_objects.specs.Library.{objects, object_of, size_of, sizes, is_table};
 ghost use Rattle.dnp_objects.specs.Headers.{headers_from, headers_of, header_with, fault_at};

@@ -1,5 +1,6 @@
 -- The two laws of reports: what is read, the part means, and what it means is read.
-use Rattle.std.proofs.Common.{◌≡◌, ℕ, ◌+◌, ◌*◌, ◌/◌, ◌≤◌, List, [], ◌∷◌, ◌++◌, length, drop, Option, Some, None, Result, Ok, Err, refl, sym, ap, subst, ◌∙◌, append_assoc, arith}
+use Rattle.std.proofs.Common.{◌≡◌, ℕ, ◌+◌, ◌*◌, ◌/◌, ◌≤◌, List, [], ◌∷◌, ◌++◌, length, drop}
+use Rattle.std.proofs.Common.{Option, Some, None, Result, Ok, Err, refl, sym, ap, subst, ◌∙◌, append_assoc, arith}
 use Rattle.std.specs.Prelude.{IfOk}
 use Rattle.std.specs.Global.{Vec}
 use Rattle.std.specs.List.{AllByRecursion}
@@ -17,7 +18,9 @@ use Rattle.dnp_objects.specs.Headers.{headers_of, body_length, octets_after}
 use Rattle.dnp_objects.proofs.Results.{bind_ok}
 use Rattle.dnp_objects.proofs.HeaderLaws.{IsPart-found, IsPart-again}
 use Rattle.dnp_points.specs.Values.{bits_of}
-use Rattle.dnp_points.specs.Meaning.{IsWithin, octets_of_objects, times_of, all_times, last_or, common_time, AreSized, AreObjects, AreReports, Means, sized_reports, header_reports, reports_from, reports_of, meaning_of}
+use Rattle.dnp_points.specs.Meaning.{IsWithin, octets_of_objects, times_of, all_times, last_or}
+use Rattle.dnp_points.specs.Meaning.{common_time, AreSized, AreObjects, AreReports, Means, sized_reports}
+use Rattle.dnp_points.specs.Meaning.{header_reports, reports_from, reports_of, meaning_of}
 use Rattle.dnp_points.proofs.Bits.{length-bits_of}
 use Rattle.dnp_points.proofs.Texts.{whole_found, whole_only, packed_found, packed_only}
 use Rattle.dnp_points.proofs.Within.{part_within}

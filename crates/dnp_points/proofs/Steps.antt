@@ -1,5 +1,7 @@
 -- Reading a header's objects, and a part's headers, one after the other, as a loop does.
-use Rattle.std.proofs.Common.{length-drop, ◌≡◌, ◌≢◌, ℕ, zero, suc, ◌+◌, ◌-◌, ◌*◌, ◌/◌, ◌<◌, ◌≤◌, List, [], ◌∷◌, ◌++◌, length, get_or, take, drop, drop-cons, add-one, Option, Some, refl, sym, ap, subst, ◌∙◌, append_assoc, arith}
+use Rattle.std.proofs.Common.{length-drop, ◌≡◌, ◌≢◌, ℕ, zero, suc, ◌+◌, ◌-◌, ◌*◌, ◌/◌}
+use Rattle.std.proofs.Common.{◌<◌, ◌≤◌, List, [], ◌∷◌, ◌++◌, length, get_or, take, drop, drop-cons}
+use Rattle.std.proofs.Common.{add-one, Option, Some, refl, sym, ap, subst, ◌∙◌, append_assoc, arith}
 use Rattle.std.proofs.lemmas.List.{append-nil, drop_all, drop-drop, take-take, drop-take, length-take}
 use Rattle.std.proofs.lemmas.Bool.{ne_eqb}
 use Rattle.gw_model.specs.declared.point.Stamp.{Stamp}
@@ -12,7 +14,8 @@ use Rattle.dnp_objects.specs.Library.{Role, Point, CommonTime, Echo, SteppedOver
 use Rattle.dnp_objects.specs.Headers.{number, body_length}
 use Rattle.dnp_points.specs.Values.{bits_of}
 use Rattle.dnp_points.specs.Objects.{object_reports, packed_reports, index_of, whole_from, packed_from}
-use Rattle.dnp_points.specs.Meaning.{IsWithin, octets_of_objects, time_by, times_from, times_by_role, times_of, last_or, sized_reports, header_reports, reports_from}
+use Rattle.dnp_points.specs.Meaning.{IsWithin, octets_of_objects, time_by, times_from, times_by_role}
+use Rattle.dnp_points.specs.Meaning.{times_of, last_or, sized_reports, header_reports, reports_from}
 use Rattle.dnp_points.proofs.Table.{are_times}
 
 some_is : {A : Type 0} (x y : A) → Some x ≡ Some y → x ≡ y

@@ -1,5 +1,7 @@
 -- What the table of variations says of the objects of a header.
-use Rattle.std.proofs.Common.{◌≡◌, ◌≢◌, ℕ, zero, suc, ◌+◌, Bool, true, false, cond, eqb, ◌&&◌, ◌||◌, List, [], ◌∷◌, ◌++◌, take, drop, Option, Some, None, ◌⊎◌, inl, inr, refl, sym, ap, subst, ◌∙◌, arith}
+use Rattle.std.proofs.Common.{◌≡◌, ◌≢◌, ℕ, zero, suc, ◌+◌, Bool, true, false, cond, eqb}
+use Rattle.std.proofs.Common.{◌&&◌, ◌||◌, List, [], ◌∷◌, ◌++◌, take, drop, Option, Some}
+use Rattle.std.proofs.Common.{None, ◌⊎◌, inl, inr, refl, sym, ap, subst, ◌∙◌, arith}
 use Rattle.std.specs.Prelude.{not, nat_lt}
 use Rattle.std.proofs.lemmas.Bool.{eqb-true, ne_eqb, and_parts, or_cases}
 use Rattle.std.proofs.lemmas.List.{append-nil}
@@ -9,10 +11,12 @@ use Rattle.dnp_objects.specs.declared.header.Header.{Header}
 use Rattle.dnp_objects.specs.declared.object.Size.{Size}
 use Rattle.dnp_objects.specs.declared.object.Size.TheVariants.{Octets, Bits}
 use Rattle.dnp_objects.specs.declared.object.Access.TheVariants.{RangesAndIndexes}
-use Rattle.dnp_objects.specs.Library.{Role, Point, CommonTime, Echo, SteppedOver, Timeless, Parts, Whole, Variation, entry, plain, objects, object_among, octet_string, object_of, size_of}
+use Rattle.dnp_objects.specs.Library.{Role, Point, CommonTime, Echo, SteppedOver, Timeless, Parts, Whole, Variation}
+use Rattle.dnp_objects.specs.Library.{entry, plain, objects, object_among, octet_string, object_of, size_of}
 use Rattle.dnp_objects.specs.Headers.{is_among}
 use Rattle.dnp_points.specs.Values.{bits_of}
-use Rattle.dnp_points.specs.Objects.{reports_by_role, packed_reports_by_role, object_reports, packed_reports, index_of, whole_from, packed_from}
+use Rattle.dnp_points.specs.Objects.{reports_by_role, packed_reports_by_role, object_reports}
+use Rattle.dnp_points.specs.Objects.{packed_reports, index_of, whole_from, packed_from}
 use Rattle.dnp_points.specs.Meaning.{IsWithin, octets_of_objects, times_by_role, times_of, sized_reports, header_reports}
 
 some_is : {A : Type 0} (x y : A) → Some x ≡ Some y → x ≡ y

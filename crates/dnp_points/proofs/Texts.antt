@@ -1,14 +1,18 @@
 -- What is read of objects is spelled so, and what is spelled so is read.
-use Rattle.std.proofs.Common.{◌≡◌, ℕ, zero, suc, ◌+◌, ◌*◌, ◌≤◌, Bool, true, false, List, [], ◌∷◌, ◌++◌, length, take, drop, refl, sym, ap, ◌∙◌, arith}
+use Rattle.std.proofs.Common.{◌≡◌, ℕ, zero, suc, ◌+◌, ◌*◌, ◌≤◌, Bool, true, false, List}
+use Rattle.std.proofs.Common.{[], ◌∷◌, ◌++◌, length, take, drop, refl, sym, ap, ◌∙◌, arith}
 use Rattle.std.proofs.lemmas.List.{take_at, drop_at, take-append-drop, length-take, length-drop, nil_from_length}
 use Rattle.gw_model.specs.declared.point.Kind.{Kind}
 use Rattle.gw_model.specs.declared.point.Stamp.{Stamp}
 use Rattle.gw_model.specs.declared.point.Report.{Report}
 use Rattle.dnp_objects.specs.declared.object.Size.{Size}
 use Rattle.dnp_objects.specs.declared.object.Size.TheVariants.{Octets, Bits}
-use Rattle.dnp_objects.specs.Library.{Role, Point, CommonTime, Echo, SteppedOver, Time, time_octets, Parts, Packed, Whole, Variation, size_of, size_of_parts}
+use Rattle.dnp_objects.specs.Library.{Role, Point, CommonTime, Echo, SteppedOver, Time, time_octets}
+use Rattle.dnp_objects.specs.Library.{Parts, Packed, Whole, Variation, size_of, size_of_parts}
 use Rattle.dnp_points.specs.Values.{flags_of, stamp_of, report_of}
-use Rattle.dnp_points.specs.Objects.{flags_octets, IsPointText, IsTextOf, IsObjectText, packed_reports, index_of, AreWhole, ArePacked, point_report, reports_by_role, object_reports, whole_from, packed_from}
+use Rattle.dnp_points.specs.Objects.{flags_octets, IsPointText, IsTextOf, IsObjectText}
+use Rattle.dnp_points.specs.Objects.{packed_reports, index_of, AreWhole, ArePacked, point_report}
+use Rattle.dnp_points.specs.Objects.{reports_by_role, object_reports, whole_from, packed_from}
 
 -- ---- one object
 

@@ -1,5 +1,6 @@
 -- Headers that were read of a part stand within it.
-use Rattle.std.proofs.Common.{◌≡◌, ℕ, suc, ◌+◌, ◌<◌, ◌≤◌, Bool, true, false, cond, eqb, ltb, ◌&&◌, List, [], ◌∷◌, ◌++◌, length, get_or, All, Option, Some, Ok, refl, subst, arith}
+use Rattle.std.proofs.Common.{◌≡◌, ℕ, suc, ◌+◌, ◌<◌, ◌≤◌, Bool, true, false, cond, eqb, ltb, ◌&&◌}
+use Rattle.std.proofs.Common.{List, [], ◌∷◌, ◌++◌, length, get_or, All, Option, Some, Ok, refl, subst, arith}
 use Rattle.std.specs.List.{AllByRecursion}
 use Rattle.std.proofs.lemmas.Bool.{and_parts, ltb-true}
 use Rattle.std.proofs.lemmas.List.Elements.{All-from_recursion}
@@ -8,7 +9,8 @@ use Rattle.dnp_objects.specs.declared.range.Width.{Width}
 use Rattle.dnp_objects.specs.declared.range.Width.TheVariants.{One, Two}
 use Rattle.dnp_objects.specs.declared.range.Range.{Range}
 use Rattle.dnp_objects.specs.declared.range.Range.TheVariants.{StartStop, Count}
-use Rattle.dnp_objects.specs.Headers.{number, octets_of, qualifiers, range_of, headers_of, octets_after, IsRange, StandsAt, AreHeaders, IsPart}
+use Rattle.dnp_objects.specs.Headers.{number, octets_of, qualifiers, range_of, headers_of}
+use Rattle.dnp_objects.specs.Headers.{octets_after, IsRange, StandsAt, AreHeaders, IsPart}
 use Rattle.dnp_objects.proofs.HeaderLaws.{parts_length, IsPart-found}
 use Rattle.dnp_points.specs.Meaning.{IsWithin, IsIndexed}
 

@@ -1,5 +1,6 @@
 -- What the octets of an object give: flags, a value and a time (IEEE Std 1815, Annex A), and the report of them.
-use Rattle.std.specs.Prelude.{ℕ, ℤ, pos, ◌+◌, ◌*◌, ◌/◌, ◌%◌, ◌^◌, ◌<◌, ◌-ℤ◌, nat_lt, nat_le, ◌==◌, ◌||◌, Bool, true, false, IsTrue, List, [], ◌∷◌, length, if◌then◌else◌, refl}
+use Rattle.std.specs.Prelude.{ℕ, ℤ, pos, ◌+◌, ◌*◌, ◌/◌, ◌%◌, ◌^◌, ◌<◌, ◌-ℤ◌, nat_lt, nat_le}
+use Rattle.std.specs.Prelude.{◌==◌, ◌||◌, Bool, true, false, IsTrue, List, [], ◌∷◌, length, if◌then◌else◌, refl}
 use Rattle.std.proofs.Common.{arith}
 use Rattle.std.proofs.lemmas.Bool.{lt-ltb}
 use Rattle.gw_model.specs.declared.point.Kind.{Kind}

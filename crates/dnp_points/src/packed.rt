@@ -1,5 +1,6 @@
 //! Packed objects: bits alone, low bits first in each octet (IEEE Std 1815, Annex A).
-ghost use Rattle.std.specs.Prelude.{◌≡◌, ◌*◌, ◌+◌, ◌≤◌, ◌%◌, ℕ, List, [], ◌∷◌, Some, length, take, drop, IsTrue, refl};
+ghost use Rattle.std.specs.Prelude.{◌≡◌, ◌*◌, ◌+◌, ◌≤◌, ◌%◌, ℕ, List, []};
+ghost use Rattle.std.specs.Prelude.{◌∷◌, Some, length, take, drop, IsTrue, refl};
 ghost use Rattle.gw_model.specs.Point.{is_of_kind};
 ghost use Rattle.gw_model.specs.declared.point.Kind.TheVariants.{Binary, Double, Output};
 ghost use Rattle.dnp_objects.specs.declared.object.Size.TheVariants.{Bits};

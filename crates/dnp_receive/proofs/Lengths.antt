@@ -5,7 +5,8 @@ use Rattle.std.specs.List.{list_any}
 use Rattle.std.proofs.lemmas.Bool.{and_parts, cases_Bool, leb-true}
 use Rattle.dnp_link.specs.Stream.{reading}
 use Rattle.dnp_transport.specs.Segment.{is_whole, is_final}
-use Rattle.dnp_transport.specs.Fragment.{back_to_first, are_consecutive, octets_of, is_fragment, fragment_ended_by_newest, fragments_ended_in, fragments_of}
+use Rattle.dnp_transport.specs.Fragment.{back_to_first, are_consecutive, octets_of, is_fragment}
+use Rattle.dnp_transport.specs.Fragment.{fragment_ended_by_newest, fragments_ended_in, fragments_of}
 use Rattle.dnp_receive.specs.Delivery.{frames_of, station_at, delivered_user_data, stream_fragments}
 
 -- each has at most 2,048 octets

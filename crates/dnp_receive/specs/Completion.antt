@@ -1,5 +1,6 @@
 -- What one frame brings a station, by all frames before it.
-use Rattle.std.specs.Prelude.{ℕ, Bool, ◌&&◌, List, [], ◌∷◌, ◌++◌, reverse, filter, Option, None, option_and_then, if◌then◌else◌}
+use Rattle.std.specs.Prelude.{ℕ, Bool, ◌&&◌, List, [], ◌∷◌, ◌++◌, reverse, filter}
+use Rattle.std.specs.Prelude.{Option, None, option_and_then, if◌then◌else◌}
 use Rattle.std.specs.List.{cons_option}
 use Rattle.dnp_link.specs.Frame.{FrameContent}
 use Rattle.dnp_link.specs.Station.{Station}

@@ -1,5 +1,6 @@
 -- How long the fragments are that a step gives.
-use Rattle.std.proofs.Common.{◌≡◌, ℕ, ◌<◌, true, not, eqb, ltb, List, [], ◌∷◌, ◌++◌, length, Option, Some, None, arith, length-append}
+use Rattle.std.proofs.Common.{◌≡◌, ℕ, ◌<◌, true, not, eqb, ltb, List, [], ◌∷◌}
+use Rattle.std.proofs.Common.{◌++◌, length, Option, Some, None, arith, length-append}
 use Rattle.std.proofs.lemmas.Bool.{cond_both, ltb-true, ltb-false, not-false}
 use Rattle.dnp_transport.specs.declared.answer.DropCause.TheVariants.{Gap, TooLong, Empty}
 use Rattle.dnp_transport.specs.Segment.{is_final, is_first, sequence, carried_octets, is_whole}

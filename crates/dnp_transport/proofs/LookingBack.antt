@@ -1,9 +1,11 @@
 -- The series that an assembler keeps is the run of segments back to the last FIR, while that run may
 -- still become a fragment. So its answers give the fragments that looking back finds.
-use Rattle.std.proofs.Common.{◌≡◌, ℕ, ◌+◌, ◌%◌, ◌<◌, Bool, true, false, not, ◌&&◌, cond, eqb, ltb, leb, List, [], ◌∷◌, ◌++◌, length, Option, Some, None, refl, sym, inl, inr, arith, length-append}
+use Rattle.std.proofs.Common.{◌≡◌, ℕ, ◌+◌, ◌%◌, ◌<◌, Bool, true, false, not, ◌&&◌, cond, eqb, ltb, leb, List}
+use Rattle.std.proofs.Common.{[], ◌∷◌, ◌++◌, length, Option, Some, None, refl, sym, inl, inr, arith, length-append}
 use Rattle.std.specs.Prelude.{option_map, option_and_then}
 use Rattle.std.specs.List.{list_any}
-use Rattle.std.proofs.lemmas.Bool.{cases_Bool, cases_lt, lt-ltb, le-ltb, le-leb, lt-leb, and_cases, and_parts, and_from, and_left, and_right, cond-true, cond-false, not-true, not-false, leb-false}
+use Rattle.std.proofs.lemmas.Bool.{cases_Bool, cases_lt, lt-ltb, le-ltb, le-leb, lt-leb, and_cases, and_parts, and_from}
+use Rattle.std.proofs.lemmas.Bool.{and_left, and_right, cond-true, cond-false, not-true, not-false, leb-false}
 use Rattle.dnp_transport.specs.declared.answer.DropCause.TheVariants.{Gap, Empty}
 use Rattle.dnp_transport.specs.Segment.{is_final, is_first, sequence, carried_octets, is_whole}
 use Rattle.dnp_transport.specs.Fragment.{back_to_first, are_consecutive, octets_of, is_fragment, fragment_ended_by_newest}

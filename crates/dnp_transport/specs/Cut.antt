@@ -1,5 +1,6 @@
 -- The segments that carry a fragment (IEEE Std 1815-2012, clause 8), each by its place among them.
-use Rattle.std.specs.Prelude.{ℕ, ◌+◌, ◌*◌, ◌/◌, ◌%◌, ◌==◌, Bool, true, ◌&&◌, List, ◌∷◌, length, take, drop, map, if◌then◌else◌}
+use Rattle.std.specs.Prelude.{ℕ, ◌+◌, ◌*◌, ◌/◌, ◌%◌, ◌==◌, Bool, true, ◌&&◌}
+use Rattle.std.specs.Prelude.{List, ◌∷◌, length, take, drop, map, if◌then◌else◌}
 use Rattle.std.specs.List.{range_with_len}
 
 -- how many segments carry this many octets, at most 249 each

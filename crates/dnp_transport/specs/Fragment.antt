@@ -1,6 +1,8 @@
 -- The fragments that a list of segments carries, by looking back from each segment with FIN
 -- (IEEE Std 1815-2012, clause 8). A history has its newest segment first.
-use Rattle.std.specs.Prelude.{ℕ, ◌+◌, ◌%◌, ◌==◌, Bool, true, false, not, ◌&&◌, nat_le, List, [], ◌∷◌, ◌++◌, length, reverse, filter, Option, Some, None, option_map, option_and_then, option_to_list, if◌then◌else◌}
+use Rattle.std.specs.Prelude.{ℕ, ◌+◌, ◌%◌, ◌==◌, Bool, true, false, not, ◌&&◌, nat_le, List}
+use Rattle.std.specs.Prelude.{[], ◌∷◌, ◌++◌, length, reverse, filter, Option, Some, None}
+use Rattle.std.specs.Prelude.{option_map, option_and_then, option_to_list, if◌then◌else◌}
 use Rattle.std.specs.List.{list_any}
 use Rattle.dnp_transport.specs.Segment.{is_final, is_first, sequence, carried_octets, is_whole}
 

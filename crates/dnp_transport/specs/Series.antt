@@ -1,5 +1,6 @@
 -- The series of segments that an assembler keeps, and its answer to the next segment.
-use Rattle.std.specs.Prelude.{ℕ, ◌+◌, ◌%◌, ◌==◌, ◌≤◌, not, nat_lt, List, ◌++◌, length, Option, Some, None, if◌then◌else◌}
+use Rattle.std.specs.Prelude.{ℕ, ◌+◌, ◌%◌, ◌==◌, ◌≤◌, not, nat_lt, List}
+use Rattle.std.specs.Prelude.{◌++◌, length, Option, Some, None, if◌then◌else◌}
 use Rattle.dnp_transport.specs.declared.answer.DropCause.{DropCause}
 use Rattle.dnp_transport.specs.declared.answer.DropCause.TheVariants.{Lone, Gap, TooLong, Empty}
 use Rattle.dnp_transport.specs.declared.answer.Taken.{Taken}

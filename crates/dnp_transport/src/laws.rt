@@ -1,5 +1,6 @@
 //! What holds of every list of segments. The functions do nothing: their contracts are the laws.
-ghost use Rattle.std.specs.Prelude.{◌≡◌, ◌-◌, ◌<◌, ◌≤◌, ℕ, List, [], ◌∷◌, ◌++◌, length, replicate, Option, None, option_to_list};
+ghost use Rattle.std.specs.Prelude.{◌≡◌, ◌-◌, ◌<◌, ◌≤◌, ℕ, List, [], ◌∷◌};
+ghost use Rattle.std.specs.Prelude.{◌++◌, length, replicate, Option, None, option_to_list};
 ghost use Rattle.dnp_transport.specs.Fragment.{fragments_of};
 ghost use Rattle.dnp_transport.specs.Series.{Series, Fragment, More, step};
 ghost use Rattle.dnp_transport.specs.Cut.{segment_count, segments_of};

@@ -1,5 +1,6 @@
 -- What an ASDU gets at once is what the definitions apart from the code say.
-use Rattle.std.proofs.Common.{◌≡◌, ◌↔◌, ℕ, ◌+◌, ◌==◌, Bool, true, false, not, ◌&&◌, ◌⊎◌, inl, inr, List, [], ◌∷◌, map, slice_get, Option, Some, None, Ok, refl, sym, ap, subst, ◌∙◌, arith}
+use Rattle.std.proofs.Common.{◌≡◌, ◌↔◌, ℕ, ◌+◌, ◌==◌, Bool, true, false, not, ◌&&◌, ◌⊎◌, inl, inr, List}
+use Rattle.std.proofs.Common.{[], ◌∷◌, map, slice_get, Option, Some, None, Ok, refl, sym, ap, subst, ◌∙◌, arith}
 use Rattle.std.proofs.lemmas.Bool.{cases_Bool, true≢false, eqb-true, eq-eqb, and_parts, and_from, not-true, not_from_false}
 use Rattle.std.proofs.lemmas.Option.{same_Some}
 use Rattle.std.specs.Prelude.{option_map}
@@ -26,7 +27,8 @@ use Rattle.gw_answers.specs.Outgoing.{confirmation_cause, confirmed, under}
 use Rattle.gw_answers.specs.Interrogations.{asked_addresses, is_general, is_accepted_act}
 use Rattle.gw_answers.specs.Answers.{shown_by, first_asked, refused_act, answered_action, answered}
 use Rattle.gw_answers.specs.Octets.{octets_in}
-use Rattle.gw_answers.specs.AtOnce.{IsInterrogation, IsGeneral, BeginsAnswer, IsConfirmedWith, IsRefusedBy, IsRefusedAct, IsShownAt, IsRead, Gets}
+use Rattle.gw_answers.specs.AtOnce.{IsInterrogation, IsGeneral, BeginsAnswer, IsConfirmedWith}
+use Rattle.gw_answers.specs.AtOnce.{IsRefusedBy, IsRefusedAct, IsShownAt, IsRead, Gets}
 
 -- ---- interrogations
 

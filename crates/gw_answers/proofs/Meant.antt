@@ -1,5 +1,7 @@
 -- What is written of an answer means what it was made of.
-use Rattle.std.proofs.Common.{◌≡◌, ℕ, zero, suc, ◌+◌, ◌/◌, ◌%◌, ◌^◌, ◌<◌, ◌≤◌, Bool, true, false, List, [], ◌∷◌, length, take, Option, Some, None, Result, Ok, Err, refl, sym, ap, subst, ◌∙◌, arith}
+use Rattle.std.proofs.Common.{◌≡◌, ℕ, zero, suc, ◌+◌, ◌/◌, ◌%◌, ◌^◌, ◌<◌, ◌≤◌}
+use Rattle.std.proofs.Common.{Bool, true, false, List, [], ◌∷◌, length, take, Option, Some}
+use Rattle.std.proofs.Common.{None, Result, Ok, Err, refl, sym, ap, subst, ◌∙◌, arith}
 use Rattle.std.specs.Prelude.{◌*◌, All, option_map, slice_index, slice_set}
 use Rattle.std.specs.List.{AllByRecursion}
 use Rattle.std.proofs.lemmas.List.{length-set}
@@ -21,7 +23,8 @@ use Rattle.iec_command.specs.declared.command.Command.{Command}
 use Rattle.iec_command.specs.declared.command.Action.{Action}
 use Rattle.iec_command.specs.declared.command.Action.TheVariants as actions
 use Rattle.iec_command.specs.declared.fault.CommandFault.{CommandFault}
-use Rattle.iec_command.specs.Commands.{spelling as command_spelling, cause_octet, command_in, command_of, faults, mirrored, type_of, unless, IsWhole}
+use Rattle.iec_command.specs.Commands.{spelling as command_spelling, cause_octet, command_in}
+use Rattle.iec_command.specs.Commands.{command_of, faults, mirrored, type_of, unless, IsWhole}
 use Rattle.iec_command.proofs.Again.{command_of-spelling}
 use Rattle.iec_command.proofs.Octets.{test_same}
 use Rattle.gw_judge.proofs.Refused.{cut_short}
@@ -31,7 +34,9 @@ use Rattle.gw_answers.specs.declared.outgoing.AsduAnswer.TheVariants.{Returned, 
 use Rattle.gw_answers.specs.declared.outgoing.OwnAsdu.{OwnAsdu}
 use Rattle.gw_answers.specs.declared.outgoing.OwnAsdu.TheVariants as outgoing
 use Rattle.gw_answers.specs.Octets.{octets_in, answer_octets, outgoing_octets, packed_octets}
-use Rattle.gw_answers.specs.Meaning.{Meant, Tells, Commands, meant_by, meaning_of, meant_outgoing, asdu_of, packed_asdu, IsSendable, HasCause, IsSentBack, ComesBack, IsRefusedWith, Means, CanSendOutgoing, CanSendAnswer}
+use Rattle.gw_answers.specs.Meaning.{Meant, Tells, Commands, meant_by, meaning_of, meant_outgoing}
+use Rattle.gw_answers.specs.Meaning.{asdu_of, packed_asdu, IsSendable, HasCause, IsSentBack}
+use Rattle.gw_answers.specs.Meaning.{ComesBack, IsRefusedWith, Means, CanSendOutgoing, CanSendAnswer}
 
 -- ---- commands
 

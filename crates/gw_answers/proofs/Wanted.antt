@@ -1,7 +1,9 @@
 -- How many places an ASDU wants is what its octets say.
-use Rattle.std.proofs.Common.{◌≡◌, ◌↔◌, ℕ, ◌/◌, ◌%◌, ◌==◌, Bool, true, false, not, ◌&&◌, ◌⊎◌, inl, inr, List, [], drop, Option, Some, None, Result, Ok, Err, refl, sym, ap, subst, ◌∙◌, arith}
+use Rattle.std.proofs.Common.{◌≡◌, ◌↔◌, ℕ, ◌/◌, ◌%◌, ◌==◌, Bool, true, false, not, ◌&&◌, ◌⊎◌, inl, inr}
+use Rattle.std.proofs.Common.{List, [], drop, Option, Some, None, Result, Ok, Err, refl, sym, ap, subst, ◌∙◌, arith}
 use Rattle.std.specs.Prelude.{slice_index, if◌then◌else◌}
-use Rattle.std.proofs.lemmas.Bool.{cases_Bool, true≢false, eqb-true, eqb-false, eq-eqb, ne_eqb, and_parts, and_from, not-true, not_from_false}
+use Rattle.std.proofs.lemmas.Bool.{cases_Bool, true≢false, eqb-true, eqb-false, eq-eqb}
+use Rattle.std.proofs.lemmas.Bool.{ne_eqb, and_parts, and_from, not-true, not_from_false}
 use Rattle.std.proofs.lemmas.List.{get_or-drop}
 use Rattle.gw_model.specs.Bits.{is_set}
 use Rattle.gw_model.specs.declared.point.ObjectKey.{ObjectKey}
@@ -15,7 +17,8 @@ use Rattle.iec_command.specs.Commands.{action_of, command_in, command_of, setpoi
 use Rattle.gw_model.specs.First.{first_of}
 use Rattle.gw_judge.specs.declared.judging.Judged.{Judged}
 use Rattle.gw_judge.specs.declared.judging.Judged.TheVariants.{Malformed, Refuse, Accepted}
-use Rattle.gw_judge.specs.Judging.{executes, has_known_cause, has_object, is_addressed, is_execute, is_object_of, judged, judged_by, judged_reading}
+use Rattle.gw_judge.specs.Judging.{executes, has_known_cause, has_object, is_addressed}
+use Rattle.gw_judge.specs.Judging.{is_execute, is_object_of, judged, judged_by, judged_reading}
 use Rattle.gw_judge.specs.Acceptable.{HasAddress, HasKnownCause, IsCauseOf, IsFor, object_for}
 use Rattle.gw_judge.specs.Refusals.{HasKnownType, IsMalformed}
 use Rattle.gw_judge.proofs.Accepted.{cause_is, first_refusal, is_cause, is_station, station_is}

@@ -1,5 +1,6 @@
 -- A picture of the rows of the worked examples, and what ASDUs get for an answer.
-use Rattle.std.specs.Prelude.{ℕ, ◌-◌, ◌≤◌, pos, Bool, true, false, List, [], ◌∷◌, ◌++◌, length, map, replicate, Option, option_map}
+use Rattle.std.specs.Prelude.{ℕ, ◌-◌, ◌≤◌, pos, Bool, true, false, List, [], ◌∷◌}
+use Rattle.std.specs.Prelude.{◌++◌, length, map, replicate, Option, option_map}
 use Rattle.gw_model.specs.declared.point.Stamp.TheVariants.{Untimed}
 use Rattle.gw_model.specs.declared.observation.Value.{Value}
 use Rattle.gw_model.specs.declared.observation.Value.TheVariants.{Single, Scaled, Total}

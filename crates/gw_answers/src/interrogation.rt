@@ -4,7 +4,8 @@ ghost use Rattle.gw_model.specs.declared.observation.Observation.{Observation as
 ghost use Rattle.std.specs.Prelude.{◌≡◌, ◌==◌, false, List, [], ◌∷◌, ◌++◌, map, slice_get, None, IfOk, IfSome, OnOk};
 ghost use Rattle.gw_model.specs.Places.{change};
 ghost use Rattle.gw_answers.specs.Answers.{first_asked};
-ghost use Rattle.gw_answers.specs.Interrogations.{answer_under, asked_addresses, cause_for, is_accepted_act, is_asked_by, is_general, rows_under};
+ghost use Rattle.gw_answers.specs.Interrogations.{answer_under, asked_addresses, cause_for};
+ghost use Rattle.gw_answers.specs.Interrogations.{is_accepted_act, is_asked_by, is_general, rows_under};
 ghost use Rattle.gw_answers.specs.Outgoing.{under};
 ghost use Rattle.gw_map.specs.Settings.{AreDistinct};
 ghost use Rattle.gw_answers.specs.Sections.{commands_in, parts_of, rows_in};

@@ -1,8 +1,10 @@
 -- The program's command line by `clap`'s rules, and what each subcommand asks for.
-use Rattle.std.specs.Prelude.{⊤, ℕ, Bool, ◌&&◌, nat_le, Result, Ok, Err, Option, Some, None, List, [], ◌∷◌, codes, fold, if◌then◌else◌, map, option_and_then, option_map, pos, false, true, unwrap_or}
+use Rattle.std.specs.Prelude.{⊤, ℕ, Bool, ◌&&◌, nat_le, Result, Ok, Err, Option, Some, None, List, [], ◌∷◌, codes}
+use Rattle.std.specs.Prelude.{fold, if◌then◌else◌, map, option_and_then, option_map, pos, false, true, unwrap_or}
 use Rattle.std.specs.Str.{bytes_eq}
 use Rattle.std.specs.Str.Parse.{digits_value, without_leading_plus}
-use Rattle.clap.specs.Words.{App, IsAmong, Row, Rule, Text, all_of, first_of, kind_of, new_app, new_rule, subcommand_of, with_rule, with_subcommand}
+use Rattle.clap.specs.Words.{App, IsAmong, Row, Rule, Text, all_of, first_of, kind_of}
+use Rattle.clap.specs.Words.{new_app, new_rule, subcommand_of, with_rule, with_subcommand}
 use Rattle.clap.specs.Kinds.{Kinds}
 use Rattle.clap.specs.Simple.{on_top}
 use Rattle.clap.specs.ValueTests.{is_unsigned_in}

@@ -4,10 +4,16 @@
 //! its subcommands as values, and what each subcommand asks for.
 
 ghost use Rattle.std.specs.Prelude.{◌≡◌, [], IfErr, IfOk, Some, false, map, option_map};
-ghost use Rattle.clap.specs.Words.{App, Rule, app_of, fault_of, first_of, found_of, rows_of, rule_of, subcommand_rows_of, with_rule, with_subcommand};
+ghost use Rattle.clap.specs.Words.{App, Rule, app_of, fault_of, first_of, found_of, rows_of};
+ghost use Rattle.clap.specs.Words.{rule_of, subcommand_rows_of, with_rule, with_subcommand};
 ghost use Rattle.clap.specs.Walk.{texts};
 ghost use Rattle.clap.specs.declared.builder.command.Command.TheViews.{out-Command as fields_of};
-ghost use Rattle.gw_command_line.specs.CommandLine.{IsRefusal, alone, as_fault, asked_of, check, check_in, file_app, file_in, file_rule, flag_rule, following, gateway, is_used, number_from, number_in, number_of, number_rule, options_in, options_of, out_in, out_rule, pcap, points, points_in, recording, request_of, run, run_in, serve, shown, spelled, text_rule, texts_in, texts_rule, translate};
+ghost use Rattle.gw_command_line.specs.CommandLine.{IsRefusal, alone, as_fault, asked_of, check, check_in};
+ghost use Rattle.gw_command_line.specs.CommandLine.{file_app, file_in, file_rule, flag_rule, following, gateway};
+ghost use Rattle.gw_command_line.specs.CommandLine.{is_used, number_from, number_in, number_of, number_rule};
+ghost use Rattle.gw_command_line.specs.CommandLine.{options_in, options_of, out_in, out_rule, pcap, points};
+ghost use Rattle.gw_command_line.specs.CommandLine.{points_in, recording, request_of, run, run_in, serve, shown};
+ghost use Rattle.gw_command_line.specs.CommandLine.{spelled, text_rule, texts_in, texts_rule, translate};
 ghost use Rattle.gw_command_line.specs.declared.reading.LineFault.TheVariants.{Memory};
 
 use clap::error::ErrorKind;

@@ -1,7 +1,8 @@
 -- What holds of each command that is accepted holds of the commands of all orders, and of their outcomes.
 use Rattle.std.specs.Prelude.{IfSome, slice_get}
 use Rattle.std.specs.List.{AllByRecursion, filter}
-use Rattle.std.proofs.Common.{◌≡◌, ℕ, zero, suc, ◌+◌, Bool, true, false, cond, not, ◌&&◌, List, [], ◌∷◌, ◌++◌, length, Option, Some, None, refl}
+use Rattle.std.proofs.Common.{◌≡◌, ℕ, zero, suc, ◌+◌, Bool, true, false, cond, not, ◌&&◌}
+use Rattle.std.proofs.Common.{List, [], ◌∷◌, ◌++◌, length, Option, Some, None, refl}
 use Rattle.gw_model.specs.First.{when}
 use Rattle.gw_model.specs.declared.control.Act.{Act}
 use Rattle.gw_model.specs.declared.control.Ended.{Ended}
@@ -13,8 +14,12 @@ use Rattle.gw_control.specs.declared.accepted.Accepted.{Accepted}
 use Rattle.gw_control.specs.declared.accepted.UnderWay.{UnderWay}
 use Rattle.gw_control.specs.Intents.{control_for}
 use Rattle.gw_control.specs.Selections.{is_select}
-use Rattle.gw_control.specs.Orders.{Outgoing, is_named, is_of_others, nothing_outgoing, outcome_by, outcome_of, outgoing_after_end, outgoing_after_ended, outgoing_after_lost, outgoing_after_taking, outgoing_with}
-use Rattle.gw_control.specs.Controls.{Controls, accepted_by, act_accepted, controls_after_at, controls_ordering, controls_selecting, controls_unselecting, is_deactivation, is_selectable, no_controls_after, outcome_ended_at, outcome_lost_at, standing_at}
+use Rattle.gw_control.specs.Orders.{Outgoing, is_named, is_of_others, nothing_outgoing, outcome_by}
+use Rattle.gw_control.specs.Orders.{outcome_of, outgoing_after_end, outgoing_after_ended}
+use Rattle.gw_control.specs.Orders.{outgoing_after_lost, outgoing_after_taking, outgoing_with}
+use Rattle.gw_control.specs.Controls.{Controls, accepted_by, act_accepted, controls_after_at, controls_ordering}
+use Rattle.gw_control.specs.Controls.{controls_selecting, controls_unselecting, is_deactivation, is_selectable}
+use Rattle.gw_control.specs.Controls.{no_controls_after, outcome_ended_at, outcome_lost_at, standing_at}
 use Rattle.gw_control.specs.Moves.{Move, Comes, Takes, Ends, Loses, Leaves, after_move, AllCommands, OfOutgoing, OfUnderWay}
 use Rattle.gw_control.proofs.Places.{all_alike, all_changed, all_mapped}
 

@@ -1,7 +1,8 @@
 -- What is accepted holds its places until its outcome, or until its session ends.
 use Rattle.std.specs.Prelude.{replicate, slice_get}
 use Rattle.std.specs.List.{filter}
-use Rattle.std.proofs.Common.{◌≡◌, ℕ, zero, suc, ◌+◌, ◌≤◌, ◌==◌, Bool, true, false, cond, not, ◌&&◌, ◌||◌, List, [], ◌∷◌, ◌++◌, map, drop, length, Option, Some, None, refl, sym, ap, ◌∙◌, arith}
+use Rattle.std.proofs.Common.{◌≡◌, ℕ, zero, suc, ◌+◌, ◌≤◌, ◌==◌, Bool, true, false, cond, not, ◌&&◌, ◌||◌}
+use Rattle.std.proofs.Common.{List, [], ◌∷◌, ◌++◌, map, drop, length, Option, Some, None, refl, sym, ap, ◌∙◌, arith}
 use Rattle.std.proofs.lemmas.Bool.{eqb-true}
 use Rattle.gw_model.specs.First.{when}
 use Rattle.gw_model.specs.Places.{change}
@@ -15,10 +16,18 @@ use Rattle.gw_control.specs.declared.accepted.UnderWay.{UnderWay}
 use Rattle.gw_control.specs.declared.selection.Selection.{Selection}
 use Rattle.gw_control.specs.Intents.{control_for}
 use Rattle.gw_control.specs.Selections.{is_own, is_select}
-use Rattle.gw_control.specs.Orders.{Outgoing, is_named, is_of_others, nothing_outgoing, outcome_by, outcome_lost, outcome_of, outgoing_after_end, outgoing_after_ended, outgoing_after_lost, outgoing_after_taking, outgoing_with, places}
-use Rattle.gw_control.specs.Controls.{Controls, accepted_by, act_accepted, answer_at, answer_of, answer_to_act, confirmed_if, controls_after_at, controls_after_command, controls_after_end, controls_after_ended, controls_after_lost, controls_after_taking, controls_ordering, controls_selecting, controls_unselecting, is_deactivation, is_full_at, is_order, is_selectable, no_controls_after, outcome_ended_at, outcome_lost_at, standing_at, AreInOrder}
+use Rattle.gw_control.specs.Orders.{Outgoing, is_named, is_of_others, nothing_outgoing, outcome_by}
+use Rattle.gw_control.specs.Orders.{outcome_lost, outcome_of, outgoing_after_end, outgoing_after_ended}
+use Rattle.gw_control.specs.Orders.{outgoing_after_lost, outgoing_after_taking, outgoing_with, places}
+use Rattle.gw_control.specs.Controls.{Controls, accepted_by, act_accepted, answer_at, answer_of, answer_to_act}
+use Rattle.gw_control.specs.Controls.{confirmed_if, controls_after_at, controls_after_command, controls_after_end}
+use Rattle.gw_control.specs.Controls.{controls_after_ended, controls_after_lost, controls_after_taking}
+use Rattle.gw_control.specs.Controls.{controls_ordering, controls_selecting, controls_unselecting}
+use Rattle.gw_control.specs.Controls.{is_deactivation, is_full_at, is_order, is_selectable, no_controls_after}
+use Rattle.gw_control.specs.Controls.{outcome_ended_at, outcome_lost_at, standing_at, AreInOrder}
 use Rattle.gw_control.specs.Moves.{one_if, IsSoundControls}
-use Rattle.gw_control.specs.Held.{controls_after_losses, is_of, orders_among, orders_in, orders_of, outcomes_to, under_way_of, waiting_in, waiting_of}
+use Rattle.gw_control.specs.Held.{controls_after_losses, is_of, orders_among, orders_in}
+use Rattle.gw_control.specs.Held.{orders_of, outcomes_to, under_way_of, waiting_in, waiting_of}
 use Rattle.gw_control.proofs.Keeps.{accepted, confirmed_no_order}
 
 -- ---- one outstation

@@ -1,7 +1,8 @@
 -- What becomes of orders keeps them in order: at most 16 wait for an outstation, and their numbers rise.
 use Rattle.std.specs.Prelude.{◌==◌, is_none, replicate, slice_get, IfSome}
 use Rattle.std.specs.List.{filter}
-use Rattle.std.proofs.Common.{◌≡◌, ℕ, zero, suc, ◌+◌, ◌<◌, ◌≤◌, Bool, true, false, cond, not, ◌&&◌, List, [], ◌∷◌, ◌++◌, map, length, Option, Some, None, option_map, refl, ap, arith, length-append}
+use Rattle.std.proofs.Common.{◌≡◌, ℕ, zero, suc, ◌+◌, ◌<◌, ◌≤◌, Bool, true, false, cond, not, ◌&&◌, List, []}
+use Rattle.std.proofs.Common.{◌∷◌, ◌++◌, map, length, Option, Some, None, option_map, refl, ap, arith, length-append}
 use Rattle.std.proofs.lemmas.Bool.{and_parts, eqb-true}
 use Rattle.std.proofs.lemmas.Bool.Decides.{nat_tests}
 use Rattle.gw_model.specs.First.{when, first_of}
@@ -15,10 +16,13 @@ use Rattle.gw_control.specs.declared.accepted.UnderWay.{UnderWay}
 use Rattle.gw_control.specs.declared.selection.Selection.{Selection}
 use Rattle.gw_control.specs.Intents.{intent_of}
 use Rattle.gw_control.specs.Selections.{asks_same, is_own, is_selected, is_taken}
-use Rattle.gw_control.specs.Orders.{Outgoing, is_full, is_named, is_of_others, nothing_outgoing, numbers_of, outgoing_after_end, outgoing_after_ended, outgoing_after_lost, outgoing_after_taking, outgoing_with, IsInOrder, Rise}
+use Rattle.gw_control.specs.Orders.{Outgoing, is_full, is_named, is_of_others, nothing_outgoing, numbers_of}
+use Rattle.gw_control.specs.Orders.{outgoing_after_end, outgoing_after_ended, outgoing_after_lost}
+use Rattle.gw_control.specs.Orders.{outgoing_after_taking, outgoing_with, IsInOrder, Rise}
 use Rattle.gw_control.specs.declared.refusal.Refusal.{Refusal}
 use Rattle.gw_control.specs.declared.refusal.Refusal.TheVariants.{OutstationDown, SelectedByAnother, NoPlace}
-use Rattle.gw_control.specs.Controls.{Controls, act_accepted, act_by, act_unless, confirmed_if, element_refusal, is_full_at, is_order, selection_refusal, AreInOrder, IsAccepted, IsSelectedFor}
+use Rattle.gw_control.specs.Controls.{Controls, act_accepted, act_by, act_unless, confirmed_if, element_refusal}
+use Rattle.gw_control.specs.Controls.{is_full_at, is_order, selection_refusal, AreInOrder, IsAccepted, IsSelectedFor}
 use Rattle.gw_control.proofs.Places.{all_alike, all_changed, all_mapped}
 
 -- ---- numbers that rise

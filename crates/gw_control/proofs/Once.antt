@@ -1,7 +1,8 @@
 -- An order has at most one outcome.
 use Rattle.std.specs.Prelude.{is_some, replicate, slice_get}
 use Rattle.std.specs.List.{filter}
-use Rattle.std.proofs.Common.{◌≡◌, ℕ, zero, suc, ◌+◌, ◌<◌, ◌≤◌, ◌==◌, Bool, true, false, cond, not, ◌&&◌, nat_lt, List, [], ◌∷◌, ◌++◌, map, length, Option, Some, None, refl, sym, ap, arith}
+use Rattle.std.proofs.Common.{◌≡◌, ℕ, zero, suc, ◌+◌, ◌<◌, ◌≤◌, ◌==◌, Bool, true, false, cond, not, ◌&&◌}
+use Rattle.std.proofs.Common.{nat_lt, List, [], ◌∷◌, ◌++◌, map, length, Option, Some, None, refl, sym, ap, arith}
 use Rattle.std.proofs.lemmas.Bool.{eqb-true, ltb-true, ltb-false}
 use Rattle.std.proofs.lemmas.Bool.Decides.{nat_tests}
 use Rattle.gw_model.specs.First.{when}
@@ -15,9 +16,14 @@ use Rattle.gw_control.specs.declared.accepted.Accepted.{Accepted}
 use Rattle.gw_control.specs.declared.accepted.UnderWay.{UnderWay}
 use Rattle.gw_control.specs.Intents.{control_for}
 use Rattle.gw_control.specs.Selections.{is_select}
-use Rattle.gw_control.specs.Orders.{Outgoing, is_named, is_of_others, nothing_outgoing, numbers_of, outcome_by, outcome_of, outgoing_after_end, outgoing_after_ended, outgoing_after_lost, outgoing_after_taking, outgoing_with, Rise}
-use Rattle.gw_control.specs.Controls.{Controls, accepted_by, act_accepted, controls_after_at, controls_ordering, controls_selecting, controls_unselecting, is_deactivation, is_selectable, no_controls, outcome_ended_at, standing_at, AreInOrder}
-use Rattle.gw_control.specs.Moves.{Move, Comes, Takes, Ends, Loses, Leaves, after_move, has_number, is_oldest, one_if, outcomes_by, outcomes_told, IsSoundControls}
+use Rattle.gw_control.specs.Orders.{Outgoing, is_named, is_of_others, nothing_outgoing, numbers_of}
+use Rattle.gw_control.specs.Orders.{outcome_by, outcome_of, outgoing_after_end, outgoing_after_ended}
+use Rattle.gw_control.specs.Orders.{outgoing_after_lost, outgoing_after_taking, outgoing_with, Rise}
+use Rattle.gw_control.specs.Controls.{Controls, accepted_by, act_accepted, controls_after_at, controls_ordering}
+use Rattle.gw_control.specs.Controls.{controls_selecting, controls_unselecting, is_deactivation, is_selectable}
+use Rattle.gw_control.specs.Controls.{no_controls, outcome_ended_at, standing_at, AreInOrder}
+use Rattle.gw_control.specs.Moves.{Move, Comes, Takes, Ends, Loses, Leaves, after_move, has_number}
+use Rattle.gw_control.specs.Moves.{is_oldest, one_if, outcomes_by, outcomes_told, IsSoundControls}
 use Rattle.gw_control.proofs.Keeps.{rise_within}
 use Rattle.gw_control.proofs.Sounds.{none_sound, stays_sound}
 

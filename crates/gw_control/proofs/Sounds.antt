@@ -1,6 +1,7 @@
 -- Controls stay sound.
 use Rattle.std.specs.Prelude.{replicate}
-use Rattle.std.proofs.Common.{◌≡◌, ℕ, zero, suc, ◌+◌, Bool, true, false, cond, List, [], ◌∷◌, map, length, Option, Some, None, refl, ap, ◌∙◌}
+use Rattle.std.proofs.Common.{◌≡◌, ℕ, zero, suc, ◌+◌, Bool, true, false, cond, List}
+use Rattle.std.proofs.Common.{[], ◌∷◌, map, length, Option, Some, None, refl, ap, ◌∙◌}
 use Rattle.gw_model.specs.Places.{change}
 use Rattle.gw_model.specs.declared.control.Act.{Act}
 use Rattle.gw_entries.specs.declared.control.Control.{Control}
@@ -9,8 +10,11 @@ use Rattle.gw_control.specs.declared.asked.AskedCommand.{AskedCommand}
 use Rattle.gw_control.specs.declared.selection.Selection.{Selection}
 use Rattle.gw_control.specs.Intents.{control_for}
 use Rattle.gw_control.specs.Selections.{is_select, selection_by, unselected_by}
-use Rattle.gw_control.specs.Orders.{nothing_outgoing, outgoing_after_end, outgoing_after_ended, outgoing_after_lost, outgoing_after_taking, outgoing_with}
-use Rattle.gw_control.specs.Controls.{Controls, accepted_by, act_accepted, controls_after_at, controls_ordering, controls_selecting, controls_unselecting, is_deactivation, is_selectable, no_controls_after, standing_at}
+use Rattle.gw_control.specs.Orders.{nothing_outgoing, outgoing_after_end, outgoing_after_ended}
+use Rattle.gw_control.specs.Orders.{outgoing_after_lost, outgoing_after_taking, outgoing_with}
+use Rattle.gw_control.specs.Controls.{Controls, accepted_by, act_accepted, controls_after_at}
+use Rattle.gw_control.specs.Controls.{controls_ordering, controls_selecting, controls_unselecting}
+use Rattle.gw_control.specs.Controls.{is_deactivation, is_selectable, no_controls_after, standing_at}
 use Rattle.gw_control.specs.Moves.{Move, Comes, Takes, Ends, Loses, Leaves, after_move, IsSoundControls}
 use Rattle.gw_control.proofs.Keeps.{accepted, end_keeps, ended_keeps, lost_keeps, nothing_keeps, ordering_keeps, taking_keeps}
 

@@ -1,6 +1,8 @@
 -- What leaves a selection alone.
 use Rattle.std.specs.Prelude.{is_none, slice_get}
-use Rattle.std.proofs.Common.{◌≡◌, ℕ, zero, suc, ◌-◌, ◌<◌, ◌≤◌, ◌==◌, ◌⊎◌, inl, inr, Bool, true, false, cond, not, ◌&&◌, ◌||◌, List, [], ◌∷◌, Option, Some, None, option_map, refl, sym, ap, subst, ◌∙◌, arith}
+use Rattle.std.proofs.Common.{◌≡◌, ℕ, zero, suc, ◌-◌, ◌<◌, ◌≤◌, ◌==◌, ◌⊎◌, inl}
+use Rattle.std.proofs.Common.{inr, Bool, true, false, cond, not, ◌&&◌, ◌||◌, List, [], ◌∷◌}
+use Rattle.std.proofs.Common.{Option, Some, None, option_map, refl, sym, ap, subst, ◌∙◌, arith}
 use Rattle.std.proofs.lemmas.Bool.{eqb-true, eqb-false, ltb-true, lt-ltb}
 use Rattle.gw_model.specs.First.{first_of, when}
 use Rattle.gw_model.specs.Places.{change}
@@ -13,7 +15,9 @@ use Rattle.gw_control.specs.Intents.{control_for}
 use Rattle.gw_control.specs.Selections.{is_fresh, is_open, is_select, is_session, selection_by, standing_in, stands, unselected_by}
 use Rattle.gw_control.specs.declared.refusal.Refusal.{Refusal}
 use Rattle.gw_control.specs.declared.refusal.Refusal.TheVariants.{SelectedByAnother}
-use Rattle.gw_control.specs.Controls.{Controls, act_accepted, act_by, controls_after_at, controls_ordering, controls_selecting, controls_unselecting, element_refusal, is_deactivation, is_selectable, standing_at}
+use Rattle.gw_control.specs.Controls.{Controls, act_accepted, act_by, controls_after_at}
+use Rattle.gw_control.specs.Controls.{controls_ordering, controls_selecting, controls_unselecting}
+use Rattle.gw_control.specs.Controls.{element_refusal, is_deactivation, is_selectable, standing_at}
 use Rattle.gw_control.specs.Moves.{Move, Comes, Takes, Ends, Loses, Leaves, after_move, is_at, Spares}
 
 -- ---- a selection that stands

@@ -10,8 +10,10 @@ use Rattle.iec_command.specs.declared.command.Action.{Action}
 use Rattle.iec_command.specs.declared.command.Action.TheVariants.{Single, Double, Setpoint, Interrogation, CounterInterrogation, Read}
 use Rattle.gw_control.specs.Intents.{act_of}
 use Rattle.gw_control.specs.declared.refusal.Refusal.{Refusal}
-use Rattle.gw_control.specs.Controls.{Controls, act_unless, no_controls_after, outcome_ended_at, outcome_lost_at, refusals_of_execute, standing_at}
-use Rattle.gw_control.specs.Moves.{Move, Comes, Takes, Ends, Loses, Leaves, after_move, is_operating, HasWholeCommands, IsWholeMove, IsWholeOrder}
+use Rattle.gw_control.specs.Controls.{Controls, act_unless, no_controls_after, outcome_ended_at}
+use Rattle.gw_control.specs.Controls.{outcome_lost_at, refusals_of_execute, standing_at}
+use Rattle.gw_control.specs.Moves.{Move, Comes, Takes, Ends, Loses, Leaves, after_move}
+use Rattle.gw_control.specs.Moves.{is_operating, HasWholeCommands, IsWholeMove, IsWholeOrder}
 use Rattle.gw_control.proofs.Commands.{OfMove, all_stay, ended_has, lost_has, none_at_first}
 
 -- what is accepted has a type that operates controls

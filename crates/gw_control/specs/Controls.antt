@@ -1,6 +1,8 @@
 -- The core's part for controls, as its contracts see it: the selections and orders of all clients, and what becomes of
 -- them.
-use Rattle.std.specs.Prelude.{◌≡◌, ℕ, ◌+◌, ◌^◌, ◌<◌, Bool, true, false, not, ◌&&◌, ◌==◌, is_none, List, [], ◌∷◌, length, map, replicate, slice_get, Option, Some, None, option_and_then, if◌then◌else◌, IfSome}
+use Rattle.std.specs.Prelude.{◌≡◌, ℕ, ◌+◌, ◌^◌, ◌<◌, Bool, true, false, not, ◌&&◌}
+use Rattle.std.specs.Prelude.{◌==◌, is_none, List, [], ◌∷◌, length, map, replicate, slice_get}
+use Rattle.std.specs.Prelude.{Option, Some, None, option_and_then, if◌then◌else◌, IfSome}
 use Rattle.std.specs.List.{AllByRecursion}
 use Rattle.gw_model.specs.First.{when, first_of}
 use Rattle.gw_model.specs.Places.{change}
@@ -22,10 +24,13 @@ use Rattle.gw_control.specs.declared.answer.Answer.TheVariants.{Confirm, Negativ
 use Rattle.gw_control.specs.declared.answer.Outcome.{Outcome}
 use Rattle.gw_control.specs.declared.selection.Selection.{Selection}
 use Rattle.gw_control.specs.declared.refusal.Refusal.{Refusal}
-use Rattle.gw_control.specs.declared.refusal.Refusal.TheVariants.{Qualifier, NoState, OutOfRange, OutstationDown, SelectedByAnother, NotSelected, UnlikeSelect, NoPlace}
+use Rattle.gw_control.specs.declared.refusal.Refusal.TheVariants.{Qualifier, NoState, OutOfRange, OutstationDown}
+use Rattle.gw_control.specs.declared.refusal.Refusal.TheVariants.{SelectedByAnother, NotSelected, UnlikeSelect, NoPlace}
 use Rattle.gw_control.specs.Intents.{act_of, command_intent, control_for, intent_of, state_of}
 use Rattle.gw_control.specs.Selections.{asks_same, is_own, is_select, is_selected, is_taken, selection_by, standing_in, unselected_by}
-use Rattle.gw_control.specs.Orders.{Outgoing, is_full, nothing_outgoing, order_given, outcome_at, outcome_lost, outgoing_after_end, outgoing_after_ended, outgoing_after_lost, outgoing_after_taking, outgoing_with, IsInOrder}
+use Rattle.gw_control.specs.Orders.{Outgoing, is_full, nothing_outgoing, order_given, outcome_at}
+use Rattle.gw_control.specs.Orders.{outcome_lost, outgoing_after_end, outgoing_after_ended}
+use Rattle.gw_control.specs.Orders.{outgoing_after_lost, outgoing_after_taking, outgoing_with, IsInOrder}
 
 pub record Controls : Type 0 where
   -- for each client the session that stands, where a control was selected in it

@@ -1,7 +1,8 @@
 -- Clients of the worked examples, and what they command. A control by single commands at 5001, which has to be selected
 -- and is operated directly; one by set-point commands at 5002, which needn't be, and is selected before it is operated;
 -- and one by double commands at 5003.
-use Rattle.std.specs.Prelude.{ℕ, zero, suc, ◌+◌, true, false, Bool, List, [], ◌∷◌, ◌++◌, ℤ, pos, map, Option, option_map, slice_get}
+use Rattle.std.specs.Prelude.{ℕ, zero, suc, ◌+◌, true, false, Bool, List, [], ◌∷◌}
+use Rattle.std.specs.Prelude.{◌++◌, ℤ, pos, map, Option, option_map, slice_get}
 use Rattle.std.proofs.Common.{lit≤}
 use Rattle.gw_model.specs.declared.control.Act.{Act}
 use Rattle.gw_model.specs.declared.control.Ended.{Ended}
@@ -22,7 +23,9 @@ use Rattle.gw_control.specs.declared.refusal.Refusal.{Refusal}
 use Rattle.gw_control.specs.declared.asked.AskedCommand.{AskedCommand}
 use Rattle.gw_control.specs.Selections.{asked}
 use Rattle.gw_control.specs.Orders.{order_given}
-use Rattle.gw_control.specs.Controls.{Controls, answer_of, controls_after_command, controls_after_end, controls_after_ended, controls_after_taking, no_controls, order_at, outcome_ended_at, outcome_lost_at, refusal_of}
+use Rattle.gw_control.specs.Controls.{Controls, answer_of, controls_after_command, controls_after_end}
+use Rattle.gw_control.specs.Controls.{controls_after_ended, controls_after_taking, no_controls}
+use Rattle.gw_control.specs.Controls.{order_at, outcome_ended_at, outcome_lost_at, refusal_of}
 
 -- ---- settings
 

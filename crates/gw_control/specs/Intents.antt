@@ -1,5 +1,6 @@
 -- What a command asks of an outstation, by the control that it is for.
-use Rattle.std.specs.Prelude.{ℕ, ℤ, pos, negsuc, ◌*ℤ◌, int_div, int_le, Bool, true, false, ◌&&◌, ◌==◌, Option, Some, None, option_map, if◌then◌else◌}
+use Rattle.std.specs.Prelude.{ℕ, ℤ, pos, negsuc, ◌*ℤ◌, int_div, int_le, Bool, true, false}
+use Rattle.std.specs.Prelude.{◌&&◌, ◌==◌, Option, Some, None, option_map, if◌then◌else◌}
 use Rattle.gw_model.specs.Optional.{◌>>=◌}
 use Rattle.gw_model.specs.declared.control.Shape.{Shape}
 use Rattle.gw_model.specs.declared.control.Shape.TheVariants.{Latch, Pulse}

@@ -1,5 +1,6 @@
 -- What may happen to selections and orders, one thing after the other, and what the laws say of it.
-use Rattle.std.specs.Prelude.{◌≡◌, ℕ, ◌+◌, ◌≤◌, Bool, true, false, not, ◌&&◌, ◌||◌, ◌==◌, is_some, List, [], ◌∷◌, length, slice_get, Option, Some, None}
+use Rattle.std.specs.Prelude.{◌≡◌, ℕ, ◌+◌, ◌≤◌, Bool, true, false, not, ◌&&◌, ◌||◌}
+use Rattle.std.specs.Prelude.{◌==◌, is_some, List, [], ◌∷◌, length, slice_get, Option, Some, None}
 use Rattle.std.specs.List.{AllByRecursion}
 use Rattle.gw_model.specs.declared.control.Ended.{Ended}
 use Rattle.gw_entries.specs.declared.control.Control.{Control}
@@ -14,7 +15,9 @@ use Rattle.gw_control.specs.declared.accepted.UnderWay.{UnderWay}
 use Rattle.gw_control.specs.declared.selection.Selection.{Selection}
 use Rattle.gw_control.specs.Intents.{control_for}
 use Rattle.gw_control.specs.Orders.{Outgoing}
-use Rattle.gw_control.specs.Controls.{Controls, clients, controls_after_command, controls_after_end, controls_after_ended, controls_after_lost, controls_after_taking, outcome_ended_at, AreInOrder}
+use Rattle.gw_control.specs.Controls.{Controls, clients, controls_after_command, controls_after_end}
+use Rattle.gw_control.specs.Controls.{controls_after_ended, controls_after_lost}
+use Rattle.gw_control.specs.Controls.{controls_after_taking, outcome_ended_at, AreInOrder}
 
 pub data Move : Type 0 where
   -- a command comes

@@ -1,9 +1,11 @@
 //! Selections and orders of all clients.
-ghost use Rattle.std.specs.Prelude.{◌≡◌, ◌<◌, ◌+◌, ◌^◌, true, false, is_none, is_some, map, not, replicate, slice_get, IfOk};
+ghost use Rattle.std.specs.Prelude.{◌≡◌, ◌<◌, ◌+◌, ◌^◌, true, false, is_none};
+ghost use Rattle.std.specs.Prelude.{is_some, map, not, replicate, slice_get, IfOk};
 ghost use Rattle.gw_model.specs.First.{first_of, when};
 ghost use Rattle.gw_control.specs.declared.refusal.Refusal.TheVariants.{NotSelected};
 ghost use Rattle.gw_model.specs.Places.{change};
-ghost use Rattle.gw_control.specs.Orders.{nothing_outgoing, outgoing_after_end, outgoing_after_ended, outgoing_after_lost, outgoing_after_taking, outgoing_with};
+ghost use Rattle.gw_control.specs.Orders.{nothing_outgoing, outgoing_after_end, outgoing_after_ended};
+ghost use Rattle.gw_control.specs.Orders.{outgoing_after_lost, outgoing_after_taking, outgoing_with};
 ghost use Rattle.gw_control.specs.Selections.{asked, is_own, unselected_by};
 ghost use Rattle.gw_control.specs.Controls.{
   act_accepted,

@@ -5,8 +5,11 @@ ghost use Rattle.gw_model.specs.declared.control.Shape.TheVariants.{Latch, Pulse
 ghost use Rattle.iec_command.specs.declared.command.Action.TheVariants.{Read};
 ghost use Rattle.iec_command.specs.Example.{command, double, setpoint, single};
 ghost use Rattle.gw_control.specs.declared.answer.Answer.TheVariants.{Confirm, Negative, Ordered, Unknown};
-ghost use Rattle.gw_control.specs.declared.refusal.Refusal.TheVariants.{Qualifier, NoState, OutOfRange, OutstationDown, SelectedByAnother, NotSelected, UnlikeSelect, NoPlace};
-ghost use Rattle.gw_control.specs.Controls.{answer_of, controls_after_command, controls_after_end, controls_after_ended, controls_after_lost, no_controls, refusal_of};
+ghost use Rattle.gw_control.specs.declared.refusal.Refusal.TheVariants.{Qualifier, NoState, OutOfRange};
+ghost use Rattle.gw_control.specs.declared.refusal.Refusal.TheVariants.{OutstationDown, SelectedByAnother};
+ghost use Rattle.gw_control.specs.declared.refusal.Refusal.TheVariants.{NotSelected, UnlikeSelect, NoPlace};
+ghost use Rattle.gw_control.specs.Controls.{answer_of, controls_after_command, controls_after_end};
+ghost use Rattle.gw_control.specs.Controls.{controls_after_ended, controls_after_lost, no_controls, refusal_of};
 ghost use Rattle.gw_control.specs.Example.{
   after,
   after_end,

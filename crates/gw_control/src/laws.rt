@@ -7,9 +7,13 @@ ghost use Rattle.gw_map.specs.Settings.{Setup};
 ghost use Rattle.gw_control.specs.declared.asked.AskedCommand.{AskedCommand};
 ghost use Rattle.gw_control.specs.declared.selection.Selection.{Selection};
 ghost use Rattle.gw_control.specs.Orders.{places};
-ghost use Rattle.gw_control.specs.Controls.{act_accepted, answer_of, controls_after_command, controls_after_end, controls_after_ended, controls_after_lost, controls_after_taking, is_order, no_controls, no_controls_after, outcome_ended_at, outcome_lost_at, standing_at, Controls, IsAccepted};
+ghost use Rattle.gw_control.specs.Controls.{act_accepted, answer_of, controls_after_command, controls_after_end};
+ghost use Rattle.gw_control.specs.Controls.{controls_after_ended, controls_after_lost, controls_after_taking};
+ghost use Rattle.gw_control.specs.Controls.{is_order, no_controls, no_controls_after, outcome_ended_at};
+ghost use Rattle.gw_control.specs.Controls.{outcome_lost_at, standing_at, Controls, IsAccepted};
 ghost use Rattle.gw_control.specs.Held.{controls_after_losses, orders_of, outcomes_to};
-ghost use Rattle.gw_control.specs.Moves.{after_move, one_if, outcomes_told, HasWholeCommands, IsSoundControls, IsWholeMove, IsWholeOrder, Move, Spares};
+ghost use Rattle.gw_control.specs.Moves.{after_move, one_if, outcomes_told, HasWholeCommands};
+ghost use Rattle.gw_control.specs.Moves.{IsSoundControls, IsWholeMove, IsWholeOrder, Move, Spares};
 
 /// A selection ends by time, by its client's commands for the control, or with its session, and by nothing else: it
 /// stands at a moment after whatever else came before.

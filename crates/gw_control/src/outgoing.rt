@@ -2,7 +2,9 @@
 ghost use Rattle.std.specs.Prelude.{◌≡◌, ◌≤◌, false, is_some, length, [], IfOk};
 ghost use Rattle.std.specs.List.{filter};
 ghost use Rattle.circular_buffer.specs.Buffer.{buffer};
-ghost use Rattle.gw_control.specs.Orders.{is_full, is_of_others, nothing_outgoing, order_given, outcome_at, outcome_lost, outgoing_after_end, outgoing_after_ended, outgoing_after_lost, outgoing_after_taking, outgoing_with};
+ghost use Rattle.gw_control.specs.Orders.{is_full, is_of_others, nothing_outgoing, order_given, outcome_at};
+ghost use Rattle.gw_control.specs.Orders.{outcome_lost, outgoing_after_end, outgoing_after_ended};
+ghost use Rattle.gw_control.specs.Orders.{outgoing_after_lost, outgoing_after_taking, outgoing_with};
 
 use crate::accepted::{Accepted, UnderWay};
 use crate::answer::Outcome;

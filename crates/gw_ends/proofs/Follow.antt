@@ -1,5 +1,6 @@
 -- What of octets was taken, whole or not, and how many segments they were.
-use Rattle.std.proofs.Common.{◌≡◌, ℕ, ◌+◌, ◌%◌, ◌<◌, ◌≤◌, List, Option, Result, Ok, Err, length, take, ap, subst, sym, ◌∙◌, arith, refl}
+use Rattle.std.proofs.Common.{◌≡◌, ℕ, ◌+◌, ◌%◌, ◌<◌, ◌≤◌, List, Option, Result}
+use Rattle.std.proofs.Common.{Ok, Err, length, take, ap, subst, sym, ◌∙◌, arith, refl}
 use Rattle.std.specs.Prelude.{OnErr, OnOk, if◌then◌else◌, is_ok}
 use Rattle.std.proofs.lemmas.List.FromFn.{length-map-range_with_len}
 use Rattle.dnp_transport.specs.Cut.{segment_count, segments_from, segments_of}

@@ -1,5 +1,6 @@
 -- Frames, one behind the others.
-use Rattle.std.proofs.Common.{◌≡◌, ◌≤◌, ℕ, ◌+◌, List, [], ◌∷◌, ◌++◌, length, min, take, drop, refl, sym, ap, subst, ◌∙◌, append_assoc, arith}
+use Rattle.std.proofs.Common.{◌≡◌, ◌≤◌, ℕ, ◌+◌, List, [], ◌∷◌, ◌++◌, length, min}
+use Rattle.std.proofs.Common.{take, drop, refl, sym, ap, subst, ◌∙◌, append_assoc, arith}
 use Rattle.std.proofs.lemmas.List.{append-nil, length-append, length-drop, take-append-le, take_min}
 use Rattle.std.proofs.Math.Seq.{take-append-add, take-append_seam}
 use Rattle.dnp_link.specs.Frame.{frame, frame_content}

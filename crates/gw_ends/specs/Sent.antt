@@ -1,5 +1,6 @@
 -- What was sent on a line.
-use Rattle.std.specs.Prelude.{◌≡◌, ℕ, ◌+◌, ◌%◌, Bool, true, false, not, ◌||◌, List, [], ◌∷◌, length, map, min, take, Option, if◌then◌else◌}
+use Rattle.std.specs.Prelude.{◌≡◌, ℕ, ◌+◌, ◌%◌, Bool, true, false, not, ◌||◌, List}
+use Rattle.std.specs.Prelude.{[], ◌∷◌, length, map, min, take, Option, if◌then◌else◌}
 use Rattle.std.specs.Io.KnownBytes.{Appends}
 use Rattle.dnp_app.specs.Requests.{octets_of}
 use Rattle.dnp_transport.specs.Cut.{segment_count, segments_of}

@@ -1,5 +1,6 @@
 -- Rows and controls, read part by part.
-use Rattle.std.proofs.Common.{◌≡◌, ℕ, List, [], ◌∷◌, ◌++◌, codes, Option, Some, None, Bool, true, false, cond, ◌||◌, ◌&&◌, ◌==◌, is_some, IsTrue, if◌then◌else◌, unwrap_or, refl, ap, ◌∙◌}
+use Rattle.std.proofs.Common.{◌≡◌, ℕ, List, [], ◌∷◌, ◌++◌, codes, Option, Some, None, Bool, true, false, cond}
+use Rattle.std.proofs.Common.{◌||◌, ◌&&◌, ◌==◌, is_some, IsTrue, if◌then◌else◌, unwrap_or, refl, ap, ◌∙◌}
 use Rattle.toml.specs.Data.{Data, Members, get_member}
 use Rattle.gw_model.specs.declared.point.Kind.{Kind}
 use Rattle.gw_model.specs.declared.point.Kind.TheVariants.{Binary}

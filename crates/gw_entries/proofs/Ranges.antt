@@ -1,6 +1,8 @@
 -- Where nothing is wrong with a table, its numbers are in their ranges.
 use Prim.Native.String.{String as Name}
-use Rattle.std.proofs.Common.{◌≡◌, cond, is_some, sym, ℕ, pos, negsuc, nat_abs, ◌<◌, ◌≤◌, ◌≤ℤ◌, ◌&&◌, arith, List, [], ◌∷◌, ◌++◌, map, min, filter_map, find, codes, bytes_eq, Option, Some, None, option_map, Bool, true, false, refl, rules, Fits, w8}
+use Rattle.std.proofs.Common.{◌≡◌, cond, is_some, sym, ℕ, pos, negsuc, nat_abs, ◌<◌, ◌≤◌, ◌≤ℤ◌}
+use Rattle.std.proofs.Common.{◌&&◌, arith, List, [], ◌∷◌, ◌++◌, map, min, filter_map, find, codes, bytes_eq}
+use Rattle.std.proofs.Common.{Option, Some, None, option_map, Bool, true, false, refl, rules, Fits, w8}
 use Rattle.std.specs.Prelude.{ℤ, int_le, int_lt}
 use Rattle.std.proofs.lemmas.Int.{ints, to_z-of_z}
 use mir.Val.{SFits, to_z, of_z}
@@ -14,7 +16,9 @@ use Rattle.gw_entries.specs.declared.fault.Section.{Section}
 use Rattle.gw_entries.specs.declared.fault.Section.TheVariants.{Station, Outstation, Point, Control}
 use Rattle.gw_entries.specs.Complaints.{complaint, placed, is_allowed, fault_of, fault_there, wrong_by, rules_wrongs, key_wrongs}
 use Rattle.gw_entries.specs.Ranges.{IsWithin, IsStation, IsOutstation}
-use Rattle.gw_entries.specs.Tables.{KeyRule, Absence, required, default, usual_type, of_station, no_rule, whole, whole_to, whole_below, outstation_position, rule, number, station_keys, outstation_keys, point_keys, control_keys}
+use Rattle.gw_entries.specs.Tables.{KeyRule, Absence, required, default, usual_type, of_station}
+use Rattle.gw_entries.specs.Tables.{no_rule, whole, whole_to, whole_below, outstation_position, rule}
+use Rattle.gw_entries.specs.Tables.{number, station_keys, outstation_keys, point_keys, control_keys}
 use Rattle.gw_entries.specs.Values.{value_or, rule_named, value_at, as_signed, as_rule, number_in, station_of, outstation_of}
 
 -- ---- one key

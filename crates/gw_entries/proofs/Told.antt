@@ -5,8 +5,7 @@ use Rattle.gw_entries.specs.declared.fault.SettingsFault.{SettingsFault}
 use Rattle.gw_entries.specs.declared.fault.SettingsFault.TheVariants.{Toml, Refused, Memory}
 use Rattle.gw_entries.specs.Answers.{first, IsTold}
 use Rattle.gw_entries.specs.Complaints.{Wrong, Complaint, complaint, placed}
-use Rattle.gw_entries.specs.Faults.{complaint_at, refusal_of}
-use Rattle.gw_entries.specs.Faults.{refused}
+use Rattle.gw_entries.specs.Faults.{complaint_at, refusal_of, refused}
 use Rattle.gw_entries.proofs.First.{stop, told}
 
 -- a fault that tells the first complaint

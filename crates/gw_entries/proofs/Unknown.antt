@@ -1,5 +1,6 @@
 -- What is wrong with one table: keys that are unknown come first.
-use Rattle.std.proofs.Common.{◌≡◌, ℕ, Bor, List, [], ◌∷◌, ◌++◌, map, find, not, Option, Some, None, is_some, option_map, String, Global, string_bytes, refl, ap, sym, ◌∙◌, inl, inr}
+use Rattle.std.proofs.Common.{◌≡◌, ℕ, Bor, List, [], ◌∷◌, ◌++◌, map, find, not, Option, Some, None, is_some}
+use Rattle.std.proofs.Common.{option_map, String, Global, string_bytes, refl, ap, sym, ◌∙◌, inl, inr}
 use Rattle.std.specs.Prelude.{bytes_eq}
 use Rattle.std.specs.List.{list_any}
 use Rattle.std.specs.Map.{keys_of}

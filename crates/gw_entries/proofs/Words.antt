@@ -1,5 +1,6 @@
 -- Words, and what they stand for.
-use Rattle.std.proofs.Common.{◌≡◌, ℕ, ◌+◌, ◌≤◌, List, [], ◌∷◌, length, drop, map, zip, Bor, Option, Some, None, unwrap_or, option_copied, bytes_eq, refl, ap, sym, inl, inr, arith, ◌∙◌}
+use Rattle.std.proofs.Common.{◌≡◌, ℕ, ◌+◌, ◌≤◌, List, [], ◌∷◌, length, drop, map, zip, Bor, Option, Some}
+use Rattle.std.proofs.Common.{None, unwrap_or, option_copied, bytes_eq, refl, ap, sym, inl, inr, arith, ◌∙◌}
 use Rattle.std.specs.List.{position_from, slice_get}
 use Rattle.std.specs.Option.{option_and_then}
 use Rattle.std.specs.Slice.{IsItemAt}

@@ -1,5 +1,6 @@
 -- What is wrong at the keys of a table.
-use Rattle.std.proofs.Common.{◌≡◌, ℕ, ◌<◌, ◌≤◌, Bor, List, [], length, drop, get_or, map, Option, Some, None, option_map, filter_map, is_some, true, sym, ◌∙◌}
+use Rattle.std.proofs.Common.{◌≡◌, ℕ, ◌<◌, ◌≤◌, Bor, List, [], length, drop, get_or, map, Option}
+use Rattle.std.proofs.Common.{Some, None, option_map, filter_map, is_some, true, sym, ◌∙◌}
 use Rattle.std.proofs.lemmas.List.{drop_all, drop_more}
 use Rattle.toml.specs.Data.{Data, Members, get_member}
 use Rattle.gw_entries.specs.declared.fault.KeyFault.{KeyFault}

@@ -1,5 +1,6 @@
 -- What is wrong with one table of a settings file: all complaints, in the order in which they are made.
-use Rattle.std.specs.Prelude.{ℕ, ℤ, pos, Bool, true, ◌&&◌, int_le, int_lt, List, [], ◌∷◌, ◌++◌, map, filter_map, codes, Option, Some, None, is_some, option_map, bytes_eq, if◌then◌else◌}
+use Rattle.std.specs.Prelude.{ℕ, ℤ, pos, Bool, true, ◌&&◌, int_le, int_lt, List, [], ◌∷◌, ◌++◌, map, filter_map}
+use Rattle.std.specs.Prelude.{codes, Option, Some, None, is_some, option_map, bytes_eq, if◌then◌else◌}
 use Rattle.std.specs.List.{list_any}
 use Rattle.toml.specs.Data.{Data, Members, no_members, member, get_member}
 use Rattle.jiff_tz.specs.PosixReader.{read_whole}
@@ -11,7 +12,8 @@ use Rattle.gw_entries.specs.declared.control.ControlShow.TheVariants as control
 use Rattle.gw_entries.specs.declared.fault.Fault.{Fault}
 use Rattle.gw_entries.specs.declared.fault.Fault.TheVariants.{Missing, WrongType, OutOfRange, UnknownKey, KindMismatch}
 use Rattle.gw_entries.specs.declared.fault.Section.{Section}
-use Rattle.gw_entries.specs.Tables.{KeyRule, KeyContent, whole, whole_to, whole_below, outstation_position, one_of, any_text, posix_rule, yes_or_no, Absence, required}
+use Rattle.gw_entries.specs.Tables.{KeyRule, KeyContent, whole, whole_to, whole_below, outstation_position}
+use Rattle.gw_entries.specs.Tables.{one_of, any_text, posix_rule, yes_or_no, Absence, required}
 use Rattle.gw_entries.specs.Values.{value_at, value_or, integer_in, text_in, flag_in, as_signed, as_text, kind_in, show_in, control_show_in}
 
 -- ---- one key

@@ -5,11 +5,14 @@ use Rattle.toml.specs.View.{view}
 use Rattle.gw_entries.specs.declared.entry.Datum.{Datum}
 use Rattle.gw_entries.specs.declared.entry.Datum.TheVariants as datum
 use Rattle.gw_entries.specs.declared.key.Absence.{Absence as CodedAbsence}
-use Rattle.gw_entries.specs.declared.key.Absence.TheVariants.{Required, Number as NumberMeant, Text as TextMeant, No, UsualType, OfStation, NoRule}
+use Rattle.gw_entries.specs.declared.key.Absence.TheVariants.{Required, Number as NumberMeant, Text as TextMeant}
+use Rattle.gw_entries.specs.declared.key.Absence.TheVariants.{No, UsualType, OfStation, NoRule}
 use Rattle.gw_entries.specs.declared.key.KeyContent.{KeyContent as CodedContent}
 use Rattle.gw_entries.specs.declared.key.KeyContent.TheVariants.{Number, NumberTo, NumberBelow, Outstation, Word, Text, PosixRule, Flag}
 use Rattle.gw_entries.specs.declared.key.Key.{Key}
-use Rattle.gw_entries.specs.Tables.{KeyContent, whole, whole_to, whole_below, outstation_position, one_of, any_text, posix_rule, yes_or_no, Absence, required, default, usual_type, of_station, no_rule, or_no, KeyRule}
+use Rattle.gw_entries.specs.Tables.{KeyContent, whole, whole_to, whole_below, outstation_position}
+use Rattle.gw_entries.specs.Tables.{one_of, any_text, posix_rule, yes_or_no, Absence, required}
+use Rattle.gw_entries.specs.Tables.{default, usual_type, of_station, no_rule, or_no, KeyRule}
 
 abbrev pub content_seen : CodedContent → KeyContent
 content_seen (Number first last) = whole first last

@@ -1,6 +1,7 @@
 -- What the tables of a settings file mean that break no rule.
 use Prim.Native.String.{String as Name}
-use Rattle.std.specs.Prelude.{ℕ, ℤ, pos, nat_abs, Bool, false, List, [], codes, Option, Some, None, is_some, option_and_then, unwrap_or, find, bytes_eq, if◌then◌else◌}
+use Rattle.std.specs.Prelude.{ℕ, ℤ, pos, nat_abs, Bool, false, List, [], codes, Option, Some, None}
+use Rattle.std.specs.Prelude.{is_some, option_and_then, unwrap_or, find, bytes_eq, if◌then◌else◌}
 use Rattle.std.specs.Option.{option_or}
 use Rattle.toml.specs.Data.{Data, Members, get_member, as_integer, as_str, as_bool}
 use Rattle.gw_model.specs.declared.point.Kind.{Kind}
@@ -18,7 +19,9 @@ use Rattle.gw_entries.specs.declared.control.Rest.TheVariants.{Latch}
 use Rattle.gw_entries.specs.Texts.{among}
 use Rattle.gw_entries.specs.Rule.{rule_in}
 use Rattle.gw_entries.specs.Shown.{usual_show}
-use Rattle.gw_entries.specs.Tables.{KeyRule, Absence, default, required, usual_type, of_station, no_rule, station_keys, outstation_keys, point_keys, control_keys, kinds, shows, control_shows, modes, rests}
+use Rattle.gw_entries.specs.Tables.{KeyRule, Absence, default, required, usual_type, of_station}
+use Rattle.gw_entries.specs.Tables.{no_rule, station_keys, outstation_keys, point_keys}
+use Rattle.gw_entries.specs.Tables.{control_keys, kinds, shows, control_shows, modes, rests}
 use Rattle.gw_entries.specs.Setup.{StationSetup, OutstationSetup, common_at, RowFields, Operation, single, double, setpoint, ControlFields}
 
 -- ---- what stands at a key

@@ -5,12 +5,14 @@ ghost use Rattle.toml.specs.Data.{get_member};
 ghost use Rattle.toml.specs.View.{view, table_view};
 ghost use Rattle.gw_model.specs.Rule.{IsClockRule};
 ghost use Rattle.gw_entries.specs.Answers.{Passes, first, wrong_of};
-ghost use Rattle.gw_entries.specs.Complaints.{complaint, placed, present, has_type, is_allowed, fault_left_out, wrong_by, key_wrongs, rules_wrongs};
+ghost use Rattle.gw_entries.specs.Complaints.{complaint, placed, present, has_type, is_allowed};
+ghost use Rattle.gw_entries.specs.Complaints.{fault_left_out, wrong_by, key_wrongs, rules_wrongs};
 ghost use Rattle.gw_entries.specs.Faults.{refusal_of, refused};
 ghost use Rattle.gw_entries.specs.Keys.{absence_seen, content_seen, datum_seen, rule_seen, words_by};
 ghost use Rattle.gw_entries.specs.Tables.{rules_of, known_keys};
 ghost use Rattle.gw_entries.specs.Texts.{among};
-ghost use Rattle.gw_entries.specs.Values.{value_or, value_at as value_in, integer_in, text_in, flag_in, as_number, as_signed, as_text, as_flag, as_rule, rule_named};
+ghost use Rattle.gw_entries.specs.Values.{value_or, value_at as value_in, integer_in, text_in, flag_in};
+ghost use Rattle.gw_entries.specs.Values.{as_number, as_signed, as_text, as_flag, as_rule, rule_named};
 ghost use Rattle.gw_entries.specs.declared.fault.Fault.TheVariants.{KindMismatch};
 
 use crate::fault::{Fault, KeyFault, Section, SettingsFault};

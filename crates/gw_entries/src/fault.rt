@@ -147,8 +147,7 @@ impl KeyFault {
     ghost use Rattle.std.specs.Prelude.{◌≡◌};
     ghost use Rattle.gw_entries.specs.Answers.{wrong_of};
     ghost use Rattle.gw_entries.specs.Complaints.{complaint};
-    ghost use Rattle.gw_entries.specs.Faults.{refusal_of};
-    ghost use Rattle.gw_entries.specs.Faults.{refused};
+    ghost use Rattle.gw_entries.specs.Faults.{refusal_of, refused};
 
     /// As what is wrong with an entry.
     pub fn at(self, section: Section, position: usize) -> SettingsFault

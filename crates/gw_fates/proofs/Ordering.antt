@@ -1,5 +1,6 @@
 -- An APDU of a client: an execute that is accepted is on its way, and a session may end.
-use Rattle.std.proofs.Common.{◌≡◌, ℕ, suc, ◌+◌, ◌<◌, Bool, true, false, cond, List, [], ◌∷◌, ◌++◌, map, Option, Some, None, option_map, refl, sym, ap, ◌∙◌, arith}
+use Rattle.std.proofs.Common.{◌≡◌, ℕ, suc, ◌+◌, ◌<◌, Bool, true, false, cond, List, [], ◌∷◌}
+use Rattle.std.proofs.Common.{◌++◌, map, Option, Some, None, option_map, refl, sym, ap, ◌∙◌, arith}
 use Rattle.std.specs.Prelude.{slice_get}
 use Rattle.gw_model.specs.declared.control.Act.{Act}
 use Rattle.gw_entries.specs.declared.control.Control.{Control}
@@ -10,7 +11,9 @@ use Rattle.iec_apci.specs.declared.apdu.Signal.TheVariants.{StartAct, StartCon, 
 use Rattle.gw_control.specs.declared.accepted.Accepted.{Accepted}
 use Rattle.gw_control.specs.declared.asked.AskedCommand.{AskedCommand}
 use Rattle.gw_control.specs.declared.selection.Selection.{Selection}
-use Rattle.gw_control.specs.Controls.{Controls, accepted_by as order_of, act_accepted, answer_at, answer_to_act, confirmed_if, controls_after_at, controls_ordering, controls_selecting, controls_unselecting, is_deactivation, is_full_at, is_selectable, standing_at}
+use Rattle.gw_control.specs.Controls.{Controls, accepted_by as order_of, act_accepted, answer_at, answer_to_act}
+use Rattle.gw_control.specs.Controls.{confirmed_if, controls_after_at, controls_ordering, controls_selecting}
+use Rattle.gw_control.specs.Controls.{controls_unselecting, is_deactivation, is_full_at, is_selectable, standing_at}
 use Rattle.gw_control.specs.Intents.{control_for}
 use Rattle.gw_control.specs.Moves.{one_if}
 use Rattle.gw_control.specs.Orders.{Outgoing, outgoing_with}

@@ -1,5 +1,6 @@
 -- In every run: each order that was accepted has ended, and that was told once, or it is on its way.
-use Rattle.std.proofs.Common.{◌≡◌, ℕ, zero, suc, ◌+◌, Bool, List, [], ◌∷◌, ◌++◌, length, map, Result, Ok, Err, refl, sym, ap, ◌∙◌, arith}
+use Rattle.std.proofs.Common.{◌≡◌, ℕ, zero, suc, ◌+◌, Bool, List, [], ◌∷◌, ◌++◌}
+use Rattle.std.proofs.Common.{length, map, Result, Ok, Err, refl, sym, ap, ◌∙◌, arith}
 use Rattle.std.specs.Prelude.{replicate}
 use Rattle.std.proofs.lemmas.List.{map-append}
 use Rattle.gw_map.specs.Settings.{Setup}
@@ -16,7 +17,8 @@ use Rattle.gw_steps.specs.Sound.{LeavesSound}
 use Rattle.gw_steps.proofs.Running.{entry, last_place}
 use Rattle.gw_history.specs.Premises.{IsSoundRun}
 use Rattle.gw_laws.proofs.Clients.{eight_clients}
-use Rattle.gw_fates.specs.Fates.{Named, accepted_in, all_accepted, all_ended, effects_by, down_from, ended_in, on_their_way, HasOneFateEach, NewestEnds}
+use Rattle.gw_fates.specs.Fates.{Named, accepted_in, all_accepted, all_ended, effects_by}
+use Rattle.gw_fates.specs.Fates.{down_from, ended_in, on_their_way, HasOneFateEach, NewestEnds}
 use Rattle.gw_fates.proofs.Counts.{all_count, all_so, times, times_append}
 use Rattle.gw_fates.proofs.Ordering.{numbered_with}
 use Rattle.gw_fates.proofs.Permuted.{permuted}

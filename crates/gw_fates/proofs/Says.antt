@@ -22,7 +22,8 @@ use Rattle.dnp_master.specs.declared.verdict.Verdict.{Verdict}
 use Rattle.dnp_master.specs.declared.verdict.Verdict.TheVariants.{Accepted, Repeated, Ignored}
 use Rattle.dnp_master.specs.declared.verdict.Ignored.TheVariants.{WrongFirst, WrongSequence}
 use Rattle.dnp_master.specs.Answers.{command_answer, operation_awaited, task_answer, task_operation, taken_by}
-use Rattle.dnp_master.specs.Fragments.{control_in, ended_answered, ended_with, is_begun_rightly, is_done as is_task_done, is_last, verdict_of_answer, verdict_of_unsolicited}
+use Rattle.dnp_master.specs.Fragments.{control_in, ended_answered, ended_with, is_begun_rightly}
+use Rattle.dnp_master.specs.Fragments.{is_done as is_task_done, is_last, verdict_of_answer, verdict_of_unsolicited}
 use Rattle.dnp_master.specs.Master.{Master, ended, ended_by_tick, ended_late as late_of, is_late, order_of, order_taken}
 use Rattle.gw_steps.specs.declared.effects.Fate.{Fate}
 use Rattle.gw_steps.specs.declared.effects.Fate.TheVariants as fates

@@ -1,5 +1,6 @@
 -- In each step: what was on its way, or is accepted, is told as ended or stays on its way.
-use Rattle.std.proofs.Common.{◌≡◌, ℕ, ◌+◌, ◌<◌, Bool, true, false, cond, length, map, Option, Some, None, Ok, refl, ap, arith}
+use Rattle.std.proofs.Common.{◌≡◌, ℕ, ◌+◌, ◌<◌, Bool, true, false, cond, length}
+use Rattle.std.proofs.Common.{map, Option, Some, None, Ok, refl, ap, arith}
 use Rattle.std.specs.Prelude.{option_and_then, slice_get}
 use Rattle.std.proofs.lemmas.Option.{slice_get_within}
 use Rattle.gw_model.specs.declared.control.Order.{Order}
@@ -15,7 +16,8 @@ use Rattle.gw_steps.specs.Controls.{order_due}
 use Rattle.gw_steps.specs.Effects.{Effects, answered as answered_ends, effects_of, effects_of_apdu, fate_by, no_effects, reported}
 use Rattle.gw_steps.specs.Sound.{IsSoundState}
 use Rattle.gw_steps.specs.State.{State, client_limit}
-use Rattle.gw_steps.specs.Steps.{after, can_be_counted, controls_after_frame, fault_of, is_accepting, latest, needs, order_ended, outcome, parts_after_fragment, parts_after_poll, reply_to}
+use Rattle.gw_steps.specs.Steps.{after, can_be_counted, controls_after_frame, fault_of, is_accepting, latest}
+use Rattle.gw_steps.specs.Steps.{needs, order_ended, outcome, parts_after_fragment, parts_after_poll, reply_to}
 use Rattle.gw_steps.proofs.Inversion.{answered, who_is_up}
 use Rattle.gw_laws.proofs.Ordered.{ordered_more}
 use Rattle.gw_fates.specs.Fates.{Named, accepted_by, accepted_in, down_from, ended_in, named_by, on_their_way}

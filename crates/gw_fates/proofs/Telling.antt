@@ -1,5 +1,6 @@
 -- What clients are told of orders is what became of them.
-use Rattle.std.proofs.Common.{◌≡◌, ℕ, zero, suc, ◌≤◌, ◌<◌, Bool, true, false, cond, not, ◌&&◌, List, [], ◌∷◌, ◌++◌, drop, length, map, Option, Some, None, refl, sym, ap, subst, ◌∙◌, arith}
+use Rattle.std.proofs.Common.{◌≡◌, ℕ, zero, suc, ◌≤◌, ◌<◌, Bool, true, false, cond, not, ◌&&◌, List, []}
+use Rattle.std.proofs.Common.{◌∷◌, ◌++◌, drop, length, map, Option, Some, None, refl, sym, ap, subst, ◌∙◌, arith}
 use Rattle.std.specs.Prelude.{slice_get}
 use Rattle.std.specs.List.{AllByRecursion, filter}
 use Rattle.std.specs.Option.{option_to_list}
@@ -11,7 +12,8 @@ use Rattle.gw_control.specs.declared.accepted.Accepted.{Accepted}
 use Rattle.gw_control.specs.declared.accepted.UnderWay.{UnderWay}
 use Rattle.gw_control.specs.declared.answer.Outcome.{Outcome}
 use Rattle.gw_control.specs.Controls.{Controls, controls_after_lost, outcome_ended_at, outcome_lost_at, AreInOrder}
-use Rattle.gw_control.specs.Orders.{Outgoing, is_named, is_numbered, numbers_of, outcome_by, outcome_of, outgoing_after_lost, IsInOrder, Rise}
+use Rattle.gw_control.specs.Orders.{Outgoing, is_named, is_numbered, numbers_of, outcome_by}
+use Rattle.gw_control.specs.Orders.{outcome_of, outgoing_after_lost, IsInOrder, Rise}
 use Rattle.gw_steps.specs.declared.effects.Fate.{Fate}
 use Rattle.gw_steps.specs.declared.effects.Fate.TheVariants as fates
 use Rattle.gw_steps.specs.declared.effects.OrderEnd.{OrderEnd}

@@ -1,5 +1,6 @@
 -- In each step of a run clients are told what became of their orders.
-use Rattle.std.proofs.Common.{◌≡◌, ℕ, suc, ◌+◌, ◌≤◌, Bool, true, false, cond, List, [], ◌∷◌, ◌++◌, length, map, Option, Some, None, Result, Ok, Err, option_map, refl, sym, ap, subst, ◌∙◌, arith}
+use Rattle.std.proofs.Common.{◌≡◌, ℕ, suc, ◌+◌, ◌≤◌, Bool, true, false, cond, List, [], ◌∷◌, ◌++◌, length}
+use Rattle.std.proofs.Common.{map, Option, Some, None, Result, Ok, Err, option_map, refl, sym, ap, subst, ◌∙◌, arith}
 use Rattle.std.specs.Prelude.{option_and_then, slice_get}
 use Rattle.std.specs.Option.{option_to_list}
 use Rattle.std.proofs.lemmas.List.{map-append}
@@ -26,10 +27,13 @@ use Rattle.gw_steps.specs.declared.step.Step.TheVariants as steps
 use Rattle.gw_steps.specs.declared.step.Reply.{Reply}
 use Rattle.gw_steps.specs.declared.step.StepFault.{StepFault}
 use Rattle.gw_steps.specs.Controls.{controls_with_ended, ended_lost, outcome_ended, outcomes_ended, outcomes_lost}
-use Rattle.gw_steps.specs.Effects.{Effects, answered, effects_of, effects_of_apdu, effects_of_event, effects_of_tick, effects_with, end_at, fate_by, late, let_go, lost, lost_waiting, no_effects, only, reported}
+use Rattle.gw_steps.specs.Effects.{Effects, answered, effects_of, effects_of_apdu, effects_of_event}
+use Rattle.gw_steps.specs.Effects.{effects_of_tick, effects_with, end_at, fate_by, late, let_go}
+use Rattle.gw_steps.specs.Effects.{lost, lost_waiting, no_effects, only, reported}
 use Rattle.gw_steps.specs.Sound.{IsSoundState, LeavesSound}
 use Rattle.gw_steps.specs.State.{State}
-use Rattle.gw_steps.specs.Steps.{controls_closed, ended_late, is_accepting, latest, order_ended, outcomes_of, outcomes_of_fragment, outcomes_of_loss, outcomes_of_tick}
+use Rattle.gw_steps.specs.Steps.{controls_closed, ended_late, is_accepting, latest, order_ended}
+use Rattle.gw_steps.specs.Steps.{outcomes_of, outcomes_of_fragment, outcomes_of_loss, outcomes_of_tick}
 use Rattle.gw_steps.specs.Runs.{Entry, state_after, unless_fault, AtEach}
 use Rattle.gw_steps.proofs.Running.{last_place}
 use Rattle.gw_history.specs.Premises.{IsSoundRun}

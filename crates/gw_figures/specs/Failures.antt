@@ -1,7 +1,11 @@
 -- Failures by their numbers.
 use Rattle.std.specs.Prelude.{ℕ, List, [], ◌∷◌, ◌==◌, if◌then◌else◌}
 use Rattle.gw_figures.specs.declared.failure.Failure.{Failure}
-use Rattle.gw_figures.specs.declared.failure.Failure.TheVariants.{ConnectionRefused, ConnectionReset, ConnectionAborted, BrokenPipe, NotConnected, NoAnswer, HostUnreachable, NetworkUnreachable, NetworkDown, NoSuchHost, NoAddress, AddressInUse, ForeignAddress, PermissionDenied, Memory, Other}
+use Rattle.gw_figures.specs.declared.failure.Failure.TheVariants.{ConnectionRefused, ConnectionReset}
+use Rattle.gw_figures.specs.declared.failure.Failure.TheVariants.{ConnectionAborted, BrokenPipe, NotConnected}
+use Rattle.gw_figures.specs.declared.failure.Failure.TheVariants.{NoAnswer, HostUnreachable, NetworkUnreachable}
+use Rattle.gw_figures.specs.declared.failure.Failure.TheVariants.{NetworkDown, NoSuchHost, NoAddress, AddressInUse}
+use Rattle.gw_figures.specs.declared.failure.Failure.TheVariants.{ForeignAddress, PermissionDenied, Memory, Other}
 
 -- the failures that have a number, each with it
 abbrev pub numbered : List (ℕ × Failure)

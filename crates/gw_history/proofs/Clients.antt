@@ -1,5 +1,6 @@
 -- What each step is to each client.
-use Rattle.std.proofs.Common.{◌≡◌, ℕ, ◌≤◌, Bool, true, false, cond, map, List, [], ◌∷◌, length, Option, Some, None, Result, Ok, Err, refl, sym, ap, subst, ◌∙◌, arith, inl, inr}
+use Rattle.std.proofs.Common.{◌≡◌, ℕ, ◌≤◌, Bool, true, false, cond, map, List, [], ◌∷◌, length, Option}
+use Rattle.std.proofs.Common.{Some, None, Result, Ok, Err, refl, sym, ap, subst, ◌∙◌, arith, inl, inr}
 use Rattle.std.specs.List.{AllByRecursion}
 use Rattle.std.specs.Prelude.{slice_get, option_map, IfSome}
 use Rattle.std.proofs.lemmas.Bool.{cases_Bool, cases_eq, ne_eqb, eq-eqb}
@@ -35,7 +36,11 @@ use Rattle.gw_steps.specs.declared.step.StepFault.{StepFault}
 use Rattle.gw_steps.specs.declared.step.StepFault.TheVariants.{NoClient, NoOutstation}
 use Rattle.gw_steps.specs.State.{State}
 use Rattle.gw_steps.specs.Controls.{client_told_all, clients_told, controls_with_ended, order_due}
-use Rattle.gw_steps.specs.Steps.{Allowed, outcome, needs, can_be_counted, reply_to, fault_of, client_reply, client_answered, client_after_frame, controls_closed, order_ended, outcomes_of_fragment, outcomes_of_loss, outcomes_of_tick, parts_after_loss, parts_after_poll, parts_after_tick, reply_of_event, reply_giving, is_accepting, bits_of, latest, after}
+use Rattle.gw_steps.specs.Steps.{Allowed, outcome, needs, can_be_counted, reply_to, fault_of}
+use Rattle.gw_steps.specs.Steps.{client_reply, client_answered, client_after_frame, controls_closed}
+use Rattle.gw_steps.specs.Steps.{order_ended, outcomes_of_fragment, outcomes_of_loss, outcomes_of_tick}
+use Rattle.gw_steps.specs.Steps.{parts_after_loss, parts_after_poll, parts_after_tick, reply_of_event}
+use Rattle.gw_steps.specs.Steps.{reply_giving, is_accepting, bits_of, latest, after}
 use Rattle.gw_steps.specs.Runs.{Entry, state_after}
 use Rattle.gw_steps.specs.Sound.{IsSoundState, LeavesSound}
 use Rattle.gw_steps.proofs.Inversion.{answered, who_is_up, who_is_down}

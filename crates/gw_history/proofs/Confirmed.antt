@@ -1,5 +1,6 @@
 -- What a reply confirms is what is due by the history.
-use Rattle.std.proofs.Common.{◌≡◌, ℕ, Bool, true, false, cond, List, [], ◌∷◌, Option, Some, None, Result, Ok, Err, refl, ap, subst, ◌∙◌}
+use Rattle.std.proofs.Common.{◌≡◌, ℕ, Bool, true, false, cond, List, [], ◌∷◌, Option}
+use Rattle.std.proofs.Common.{Some, None, Result, Ok, Err, refl, ap, subst, ◌∙◌}
 use Rattle.std.proofs.Math.Bool.{or-false}
 use Rattle.std.specs.Prelude.{slice_get}
 use Rattle.gw_model.specs.declared.control.Order.{Order}
@@ -21,11 +22,14 @@ use Rattle.gw_steps.specs.declared.step.StepFault.{StepFault}
 use Rattle.gw_steps.specs.declared.step.StepFault.TheVariants.{NoOutstation, NoClient}
 use Rattle.gw_steps.specs.Controls.{order_for}
 use Rattle.gw_steps.specs.State.{State}
-use Rattle.gw_steps.specs.Steps.{Allowed, outcome, needs, can_be_counted, reply_to, fault_of, reply_of_event, reply_asking, reply_giving, request_polled, latest}
+use Rattle.gw_steps.specs.Steps.{Allowed, outcome, needs, can_be_counted, reply_to, fault_of}
+use Rattle.gw_steps.specs.Steps.{reply_of_event, reply_asking, reply_giving, request_polled, latest}
 use Rattle.gw_steps.specs.Runs.{Entry, state_after}
 use Rattle.gw_steps.proofs.Inversion.{answered, who_is_up}
 use Rattle.gw_history.specs.Accepted.{last_text, AskedRequest, is_in_sequence, is_in_place, is_answer, asked_of}
-use Rattle.gw_history.specs.Confirmations.{asked_confirmation, verdict_in, verdict_due_to_answer, verdict_due, confirmation_in, confirmation_due, without_order, Confirms, ConfirmsBy, Confirmations}
+use Rattle.gw_history.specs.Confirmations.{asked_confirmation, verdict_in, verdict_due_to_answer}
+use Rattle.gw_history.specs.Confirmations.{verdict_due, confirmation_in, confirmation_due}
+use Rattle.gw_history.specs.Confirmations.{without_order, Confirms, ConfirmsBy, Confirmations}
 use Rattle.gw_history.proofs.Masters.{MasterIs, MasterTied, verdict_is}
 use Rattle.gw_history.proofs.Tied.{Tied}
 use Rattle.gw_history.proofs.Places.{Place}

@@ -1,5 +1,6 @@
 -- The pictures of a life are those of the log, and show the rows of the settings.
-use Rattle.std.proofs.Common.{◌≡◌, ℕ, Bool, true, false, List, [], ◌∷◌, ◌++◌, Option, Some, None, Result, Ok, Err, refl, sym, subst}
+use Rattle.std.proofs.Common.{◌≡◌, ℕ, Bool, true, false, List, [], ◌∷◌, ◌++◌}
+use Rattle.std.proofs.Common.{Option, Some, None, Result, Ok, Err, refl, sym, subst}
 use Rattle.std.specs.Prelude.{◌==◌, if◌then◌else◌}
 use Rattle.std.proofs.lemmas.List.{append-nil}
 use Rattle.gw_model.specs.declared.observation.Observation.{Observation}
@@ -19,7 +20,8 @@ use Rattle.gw_steps.specs.Runs.{Entry, AtEach}
 use Rattle.gw_steps.specs.Said.{ApduMeaning, said}
 use Rattle.gw_steps.proofs.Running.{entry, last_place, at_each}
 use Rattle.gw_history.specs.Log.{log_of}
-use Rattle.gw_history.specs.Life.{Turn, Idle, bringing, Takes, PutsOut, Ends, puts_out, turn_taking, turn_giving, is_closed_in, nothing_new, outcomes_for, outcomes_in, said_in, turn_of, lived, life}
+use Rattle.gw_history.specs.Life.{Turn, Idle, bringing, Takes, PutsOut, Ends, puts_out, turn_taking, turn_giving}
+use Rattle.gw_history.specs.Life.{is_closed_in, nothing_new, outcomes_for, outcomes_in, said_in, turn_of, lived, life}
 use Rattle.gw_history.specs.Premises.{IsSoundRun}
 use Rattle.gw_history.proofs.Places.{Place, places}
 

@@ -1,5 +1,6 @@
 -- What ties an outstation's part of the state to its history, and how each step keeps it.
-use Rattle.std.proofs.Common.{◌≡◌, ℕ, ◌+◌, ◌/◌, ◌%◌, ◌<◌, Bool, true, false, not, cond, eqb, List, [], ◌∷◌, Option, Some, None, Ok, refl, sym, ap, subst, ◌∙◌, arith, inl, inr}
+use Rattle.std.proofs.Common.{◌≡◌, ℕ, ◌+◌, ◌/◌, ◌%◌, ◌<◌, Bool, true, false, not, cond, eqb, List, []}
+use Rattle.std.proofs.Common.{◌∷◌, Option, Some, None, Ok, refl, sym, ap, subst, ◌∙◌, arith, inl, inr}
 use Rattle.std.specs.Prelude.{slice_index, option_map}
 use Rattle.std.proofs.lemmas.Bool.{cases_Bool, eqb-true, eqb-false, ne_eqb, eq-eqb, le-leb, lt-leb, true≢false}
 use Rattle.std.proofs.lemmas.Slice.Eq.{bytes_eq-Decides}
@@ -15,12 +16,17 @@ use Rattle.dnp_master.specs.declared.exchange.Awaited.{Awaited}
 use Rattle.dnp_master.specs.declared.exchange.Exchange.{Exchange}
 use Rattle.dnp_master.specs.declared.exchange.Exchange.TheVariants.{Idle, Waiting, Selected}
 use Rattle.dnp_master.specs.declared.task.Task.{Task}
-use Rattle.dnp_master.specs.declared.task.Task.TheVariants.{ClearRestart, WriteTime, RecordTime, Disable, Integrity, Enable, EventPoll, Command}
+use Rattle.dnp_master.specs.declared.task.Task.TheVariants.{ClearRestart, WriteTime, RecordTime, Disable}
+use Rattle.dnp_master.specs.declared.task.Task.TheVariants.{Integrity, Enable, EventPoll, Command}
 use Rattle.dnp_master.specs.declared.verdict.Verdict.{Verdict}
 use Rattle.dnp_master.specs.declared.verdict.Verdict.TheVariants.{Accepted, Repeated, Ignored}
 use Rattle.dnp_master.specs.declared.verdict.Ignored.TheVariants.{WrongFirst, WrongSequence}
-use Rattle.dnp_master.specs.Master.{Master, master_down, master_after_up, master_after_next, master_after_order, master_after_tick, master_asking, master_with_exchange_after, order_task, task_given, task_request, request_given, request_ordered, is_late, following}
-use Rattle.dnp_master.specs.Fragments.{control_in, is_last, is_begun_rightly, verdict_of_answer, verdict_of, is_acceptance, accepts, ended_with, exchange_once_answered, is_done, master_after_answer, master_after_accepted, master_after_fragment}
+use Rattle.dnp_master.specs.Master.{Master, master_down, master_after_up, master_after_next, master_after_order}
+use Rattle.dnp_master.specs.Master.{master_after_tick, master_asking, master_with_exchange_after, order_task}
+use Rattle.dnp_master.specs.Master.{task_given, task_request, request_given, request_ordered, is_late, following}
+use Rattle.dnp_master.specs.Fragments.{control_in, is_last, is_begun_rightly, verdict_of_answer, verdict_of}
+use Rattle.dnp_master.specs.Fragments.{is_acceptance, accepts, ended_with, exchange_once_answered, is_done}
+use Rattle.dnp_master.specs.Fragments.{master_after_answer, master_after_accepted, master_after_fragment}
 use Rattle.gw_steps.specs.declared.step.Step.TheVariants as steps
 use Rattle.gw_steps.specs.declared.step.Reply.{Reply}
 use Rattle.gw_steps.specs.declared.step.Reply.TheVariants as replies
@@ -28,7 +34,8 @@ use Rattle.gw_steps.specs.State.{later}
 use Rattle.gw_steps.specs.Steps.{reply_asking}
 use Rattle.gw_steps.specs.Runs.{Entry}
 use Rattle.gw_steps.proofs.Running.{entry}
-use Rattle.gw_history.specs.Accepted.{moment_after, last_text, AskedRequest, is_in_sequence, is_in_place, is_answer, asked_with, asked_at, poll_at, asked_of, is_accepted}
+use Rattle.gw_history.specs.Accepted.{moment_after, last_text, AskedRequest, is_in_sequence, is_in_place}
+use Rattle.gw_history.specs.Accepted.{is_answer, asked_with, asked_at, poll_at, asked_of, is_accepted}
 use Rattle.gw_history.specs.Confirmations.{asked_confirmation, verdict_due_to_answer, verdict_due, without_order}
 
 -- ---- the tie

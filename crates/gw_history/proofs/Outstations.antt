@@ -1,5 +1,6 @@
 -- Each step of an outstation, and a tick, keeps what ties the state to the history.
-use Rattle.std.proofs.Common.{◌≡◌, ℕ, true, false, List, ◌∷◌, ◌++◌, [], Option, Some, None, Ok, refl, sym, ap, subst, ◌∙◌, inl, inr}
+use Rattle.std.proofs.Common.{◌≡◌, ℕ, true, false, List, ◌∷◌, ◌++◌, [], Option}
+use Rattle.std.proofs.Common.{Some, None, Ok, refl, sym, ap, subst, ◌∙◌, inl, inr}
 use Rattle.std.specs.Prelude.{slice_get, option_map}
 use Rattle.std.proofs.lemmas.Bool.{cases_Bool, cases_eq, ne_eqb}
 use Rattle.gw_model.specs.declared.control.Order.{Order}
@@ -13,7 +14,8 @@ use Rattle.gw_picture.proofs.Lists.{change-here, change-there, map-get}
 use Rattle.gw_picture.proofs.Losses.{loss_in_log}
 use Rattle.dnp_app.specs.declared.request.Request.{Request}
 use Rattle.dnp_app.specs.Response.{Fragment}
-use Rattle.dnp_master.specs.Master.{Master, master_down, master_after_up, master_after_next, master_after_order, master_after_tick, task_given}
+use Rattle.dnp_master.specs.Master.{Master, master_down, master_after_up, master_after_next}
+use Rattle.dnp_master.specs.Master.{master_after_order, master_after_tick, task_given}
 use Rattle.dnp_master.specs.Fragments.{accepts, master_after_fragment}
 use Rattle.gw_steps.specs.declared.step.Step.{Step}
 use Rattle.gw_steps.specs.declared.step.Step.TheVariants as steps
@@ -21,13 +23,16 @@ use Rattle.gw_steps.specs.declared.step.Reply.{Reply}
 use Rattle.gw_steps.specs.declared.step.StepFault.TheVariants.{NoOutstation}
 use Rattle.gw_steps.specs.Controls.{order_due}
 use Rattle.gw_steps.specs.State.{State, later}
-use Rattle.gw_steps.specs.Steps.{outcome, needs, can_be_counted, reply_to, fault_of, outstation_reply, parts_after_poll, reply_asking, request_polled, is_accepting, latest, after}
+use Rattle.gw_steps.specs.Steps.{outcome, needs, can_be_counted, reply_to, fault_of, outstation_reply}
+use Rattle.gw_steps.specs.Steps.{parts_after_poll, reply_asking, request_polled, is_accepting, latest, after}
 use Rattle.gw_steps.specs.Runs.{Entry}
 use Rattle.gw_steps.proofs.Inversion.{answered, who_is_up}
 use Rattle.gw_steps.proofs.Running.{entry}
 use Rattle.gw_history.specs.Accepted.{moment_after, last_text, asked_of, is_accepted}
 use Rattle.gw_history.specs.Log.{log_of, news_after_log}
-use Rattle.gw_history.proofs.Masters.{MasterIs, MasterTied, same_master, same_accepted, master_up, master_lost, master_ordered, master_polled, master_ticked, master_accepted, master_left, other_last, other_asked}
+use Rattle.gw_history.proofs.Masters.{MasterIs, MasterTied, same_master, same_accepted, master_up}
+use Rattle.gw_history.proofs.Masters.{master_lost, master_ordered, master_polled, master_ticked}
+use Rattle.gw_history.proofs.Masters.{master_accepted, master_left, other_last, other_asked}
 use Rattle.gw_history.proofs.Pictures.{news_same}
 use Rattle.gw_history.proofs.Tied.{Tied, told_moment, brought, same_log, quiet_tied}
 

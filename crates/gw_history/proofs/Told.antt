@@ -3,7 +3,8 @@
 use Rattle.std.specs.List.{AllByRecursion, filter}
 use Rattle.std.specs.Option.{option_to_list}
 use Rattle.std.specs.Prelude.{slice_get, option_map, IfSome}
-use Rattle.std.proofs.Common.{◌≡◌, ℕ, zero, suc, ◌+◌, ◌≤◌, ◌*◌, Bool, true, false, cond, eqb, map, List, [], ◌∷◌, ◌++◌, length, Option, Some, None, refl, sym, ap, subst, ◌∙◌, arith, inl, inr}
+use Rattle.std.proofs.Common.{◌≡◌, ℕ, zero, suc, ◌+◌, ◌≤◌, ◌*◌, Bool, true, false, cond, eqb, map, List, []}
+use Rattle.std.proofs.Common.{◌∷◌, ◌++◌, length, Option, Some, None, refl, sym, ap, subst, ◌∙◌, arith, inl, inr}
 use Rattle.std.proofs.lemmas.Bool.{cases_eq, ne_eqb, eq-eqb}
 use Rattle.std.proofs.lemmas.List.{length-append, nil_from_length}
 use Rattle.std.proofs.lemmas.List.Elements.{filter-append}
@@ -23,7 +24,9 @@ use Rattle.gw_control.proofs.Whole.{ended_whole, lost_whole, stays_whole}
 use Rattle.gw_station.specs.Client.{Client, client_with_news, is_started, is_timed_out}
 use Rattle.gw_station.specs.Sound.{IsSoundClient}
 use Rattle.gw_station.proofs.All.{all-append}
-use Rattle.gw_steps.specs.Controls.{client_told_all, client_told_of, clients_told, controls_after_all_ended, controls_after_closes, controls_with_ended, ended_lost, outcome_ended, outcomes_ended, outcomes_lost}
+use Rattle.gw_steps.specs.Controls.{client_told_all, client_told_of, clients_told}
+use Rattle.gw_steps.specs.Controls.{controls_after_all_ended, controls_after_closes, controls_with_ended}
+use Rattle.gw_steps.specs.Controls.{ended_lost, outcome_ended, outcomes_ended, outcomes_lost}
 use Rattle.gw_steps.specs.Sound.{IsSoundState}
 use Rattle.gw_steps.specs.State.{State}
 use Rattle.gw_steps.specs.Steps.{controls_closed, ended_late, outcomes_of_loss, outcomes_of_tick, parts_after_loss, parts_after_tick}

@@ -1,5 +1,6 @@
 -- At each place of a run the outstations of the settings are up as the history tells, and there are no others.
-use Rattle.std.proofs.Common.{◌≡◌, ℕ, zero, suc, Bool, true, false, cond, eqb, ltb, List, [], ◌∷◌, length, map, Option, Some, None, Result, Ok, Err, refl, sym, ap, subst, ◌∙◌, arith, inl, inr}
+use Rattle.std.proofs.Common.{◌≡◌, ℕ, zero, suc, Bool, true, false, cond, eqb, ltb, List, [], ◌∷◌, length, map}
+use Rattle.std.proofs.Common.{Option, Some, None, Result, Ok, Err, refl, sym, ap, subst, ◌∙◌, arith, inl, inr}
 use Rattle.std.specs.Prelude.{nat_lt, option_map, slice_get}
 use Rattle.std.proofs.lemmas.Bool.{cases_Bool, cases_eq, eq-eqb, le-ltb, lt-ltb, ltb-false, ltb-true, ne_eqb}
 use Rattle.gw_model.specs.First.{when}
@@ -13,7 +14,9 @@ use Rattle.dnp_master.specs.declared.exchange.Exchange.{Exchange}
 use Rattle.dnp_master.specs.declared.exchange.Exchange.TheVariants.{Idle, Selected, Waiting}
 use Rattle.dnp_master.specs.declared.task.Task.{Task}
 use Rattle.dnp_master.specs.Fragments.{accepts, master_after_answer, master_after_fragment, master_after_unsolicited}
-use Rattle.dnp_master.specs.Master.{Master, due_unanswered, is_late, master_after_given, master_after_next, master_after_order, master_after_tick, master_after_up, master_down, master_with_exchange_after, task_given}
+use Rattle.dnp_master.specs.Master.{Master, due_unanswered, is_late, master_after_given}
+use Rattle.dnp_master.specs.Master.{master_after_next, master_after_order, master_after_tick}
+use Rattle.dnp_master.specs.Master.{master_after_up, master_down, master_with_exchange_after, task_given}
 use Rattle.gw_steps.specs.declared.step.Step.{Step}
 use Rattle.gw_steps.specs.declared.step.Step.TheVariants as steps
 use Rattle.gw_steps.specs.declared.step.Reply.{Reply}

@@ -1,6 +1,7 @@
 -- A confirmation is given only in the reply of the step that put a fragment's news into the log, or for a fragment
 -- that is the last accepted one again; and only where the fragment asks for one.
-use Rattle.std.specs.Prelude.{◌≡◌, ℕ, ◌+◌, ◌%◌, false, ◌||◌, nat_le, List, [], ◌∷◌, Option, Some, None, Result, Ok, Err, if◌then◌else◌}
+use Rattle.std.specs.Prelude.{◌≡◌, ℕ, ◌+◌, ◌%◌, false, ◌||◌, nat_le, List, []}
+use Rattle.std.specs.Prelude.{◌∷◌, Option, Some, None, Result, Ok, Err, if◌then◌else◌}
 use Rattle.gw_map.specs.Settings.{Setup}
 use Rattle.dnp_app.specs.Response.{Fragment, is_unsolicited}
 use Rattle.dnp_master.specs.declared.verdict.Verdict.{Verdict}

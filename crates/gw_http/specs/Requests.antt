@@ -1,5 +1,6 @@
 -- What is answered to a request.
-use Rattle.std.specs.Prelude.{◌≡◌, ◌≤◌, ◌⊎◌, ◌++◌, ℕ, Bool, ◌||◌, ◌==◌, Result, Ok, Err, Option, Some, None, List, codes, false, if◌then◌else◌, drop, length, nat_eq, position, take}
+use Rattle.std.specs.Prelude.{◌≡◌, ◌≤◌, ◌⊎◌, ◌++◌, ℕ, Bool, ◌||◌, ◌==◌, Result, Ok, Err, Option, Some}
+use Rattle.std.specs.Prelude.{None, List, codes, false, if◌then◌else◌, drop, length, nat_eq, position, take}
 use Rattle.std.specs.Io.KnownBytes.{Consumes}
 use Rattle.std.specs.List.{starts_with}
 use Rattle.std.specs.Str.{bytes_eq}

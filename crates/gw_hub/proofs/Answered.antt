@@ -1,7 +1,9 @@
 -- Commands that are given find places for what is said of them.
-use Rattle.std.specs.Prelude.{slice_get, slice_index, option_map, take, not, ◌^◌, ◌&&◌, ◌||◌, IfSome, IsTrue, if◌then◌else◌}
+use Rattle.std.specs.Prelude.{slice_get, slice_index, option_map, take, not}
+use Rattle.std.specs.Prelude.{◌^◌, ◌&&◌, ◌||◌, IfSome, IsTrue, if◌then◌else◌}
 use Rattle.std.specs.List.{AllByRecursion}
-use Rattle.std.proofs.Common.{◌≡◌, ℕ, zero, suc, ◌+◌, ◌*◌, ◌<◌, ◌≤◌, ◌==◌, Bool, true, false, List, [], ◌∷◌, map, length, Option, Some, None, Result, Ok, Err, refl, sym, ap, subst, ◌∙◌, arith}
+use Rattle.std.proofs.Common.{◌≡◌, ℕ, zero, suc, ◌+◌, ◌*◌, ◌<◌, ◌≤◌, ◌==◌, Bool, true, false, List, []}
+use Rattle.std.proofs.Common.{◌∷◌, map, length, Option, Some, None, Result, Ok, Err, refl, sym, ap, subst, ◌∙◌, arith}
 use Rattle.std.proofs.lemmas.List.{length-append}
 use Rattle.std.proofs.lemmas.Bool.{eq-eqb, ltb-true, ne_eqb}
 use Rattle.gw_model.specs.First.{first_of, when}
@@ -28,11 +30,14 @@ use Rattle.gw_control.specs.Moves.{Comes, Leaves, one_if, HasWholeCommands, IsSo
 use Rattle.gw_control.proofs.Held.{command_holds, end_frees_own, end_keeps_others}
 use Rattle.gw_control.proofs.Sounds.{stays_sound}
 use Rattle.gw_control.proofs.Whole.{stays_whole}
-use Rattle.gw_judge.specs.Judging.{executes, has_known_cause, has_object, is_addressed, is_execute, is_known_cause, judged_by, judged_reading, refusal_of}
+use Rattle.gw_judge.specs.Judging.{executes, has_known_cause, has_object, is_addressed, is_execute}
+use Rattle.gw_judge.specs.Judging.{is_known_cause, judged_by, judged_reading, refusal_of}
 use Rattle.gw_control.specs.declared.answer.Answer.{Answer}
 use Rattle.gw_control.specs.declared.answer.Answer.TheVariants as answers
 use Rattle.gw_control.specs.Selections.{is_own, is_select}
-use Rattle.gw_control.specs.Controls.{Controls, act_accepted, answer_at, answer_of, answer_to_act, confirmed_if, controls_after_command, controls_after_end, is_deactivation, is_order, is_selectable, standing_at, CanAnswer}
+use Rattle.gw_control.specs.Controls.{Controls, act_accepted, answer_at, answer_of, answer_to_act}
+use Rattle.gw_control.specs.Controls.{confirmed_if, controls_after_command, controls_after_end}
+use Rattle.gw_control.specs.Controls.{is_deactivation, is_order, is_selectable, standing_at, CanAnswer}
 use Rattle.gw_answers.specs.declared.outgoing.AsduAnswer.TheVariants.{Made}
 use Rattle.gw_answers.specs.Answers.{command_by, control_command}
 use Rattle.gw_station.specs.declared.event.Event.{Event}
@@ -43,7 +48,8 @@ use Rattle.gw_station.specs.declared.event.Said.TheVariants as saids
 use Rattle.gw_station.specs.declared.client.Stage.TheVariants.{Stopped, Started}
 use Rattle.gw_station.specs.Answers.{held_with, told, CanBeTold}
 use Rattle.gw_station.specs.Client.{Client, client_anew, is_started, is_up}
-use Rattle.gw_station.specs.Frames.{client_after_apdu, client_by, client_taking, close_of, command_given, command_in, event_by, event_of, event_taking, judged_asdu, HasPlace}
+use Rattle.gw_station.specs.Frames.{client_after_apdu, client_by, client_taking, close_of, command_given}
+use Rattle.gw_station.specs.Frames.{command_in, event_by, event_of, event_taking, judged_asdu, HasPlace}
 use Rattle.gw_station.specs.Sound.{IsSoundClient, IsWholeEvent}
 use Rattle.gw_station.proofs.Sounds.{sound_told}
 use Rattle.gw_steps.specs.declared.step.Step.TheVariants as steps
@@ -51,7 +57,10 @@ use Rattle.gw_steps.specs.declared.step.Reply.{Reply}
 use Rattle.gw_steps.specs.declared.step.StepFault.TheVariants.{NoClient}
 use Rattle.gw_steps.specs.Controls.{answer_to, controls_after_event, said_by}
 use Rattle.gw_steps.specs.State.{State, Counts}
-use Rattle.gw_steps.specs.Steps.{after, can_order, can_rise, client_after_frame, client_answered, client_reply, client_up, command_of as command_of_apdu, controls_after_frame, fault_unless_up, is_beginning, is_ordering, latest, outcome, raised, reply_of_event, reply_to, said_to, sessions_with}
+use Rattle.gw_steps.specs.Steps.{after, can_order, can_rise, client_after_frame, client_answered}
+use Rattle.gw_steps.specs.Steps.{client_reply, client_up, command_of as command_of_apdu}
+use Rattle.gw_steps.specs.Steps.{controls_after_frame, fault_unless_up, is_beginning, is_ordering, latest}
+use Rattle.gw_steps.specs.Steps.{outcome, raised, reply_of_event, reply_to, said_to, sessions_with}
 use Rattle.gw_parts.specs.Clients.{event_at}
 use Rattle.gw_hub.specs.Hub.{asked_by_sender, controls_settled, said_to_sender, step_with, CanOrder, IsActEvent}
 use Rattle.gw_hub.specs.declared.orders.Sender.{Sender}

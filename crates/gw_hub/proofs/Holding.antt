@@ -2,7 +2,9 @@
 use Rattle.std.specs.Prelude.{slice_get, option_map, is_some, nat_lt, IfSome, if◌then◌else◌}
 use Rattle.std.specs.List.{AllByRecursion}
 use Rattle.std.specs.Option.{option_to_list}
-use Rattle.std.proofs.Common.{◌≡◌, ℕ, zero, suc, ◌+◌, ◌*◌, ◌-◌, ◌<◌, ◌≤◌, Bool, true, false, List, [], ◌∷◌, ◌++◌, map, length, Option, Some, None, Ok, refl, sym, ap, subst, ◌∙◌, arith, inl, inr}
+use Rattle.std.proofs.Common.{◌≡◌, ℕ, zero, suc, ◌+◌, ◌*◌, ◌-◌, ◌<◌, ◌≤◌, Bool}
+use Rattle.std.proofs.Common.{true, false, List, [], ◌∷◌, ◌++◌, map, length, Option}
+use Rattle.std.proofs.Common.{Some, None, Ok, refl, sym, ap, subst, ◌∙◌, arith, inl, inr}
 use Rattle.std.proofs.lemmas.List.{length-append}
 use Rattle.std.proofs.lemmas.Bool.{cases_Bool, cases_eq, ne_eqb, eq-eqb}
 use Rattle.gw_model.specs.Places.{change}
@@ -20,7 +22,8 @@ use Rattle.iec_command.specs.Commands.{IsWhole}
 use Rattle.gw_control.specs.declared.answer.Outcome.{Outcome}
 use Rattle.gw_control.specs.declared.accepted.Accepted.{Accepted}
 use Rattle.gw_control.specs.Orders.{Outgoing, next_of, order_given, outgoing_after_taking, outgoing_sending}
-use Rattle.gw_control.specs.Controls.{Controls, controls_after_end, controls_after_ended, controls_after_lost, controls_after_taking, order_at, outcome_ended_at, outcome_lost_at}
+use Rattle.gw_control.specs.Controls.{Controls, controls_after_end, controls_after_ended, controls_after_lost}
+use Rattle.gw_control.specs.Controls.{controls_after_taking, order_at, outcome_ended_at, outcome_lost_at}
 use Rattle.gw_control.specs.Held.{controls_after_losses, orders_of, outcomes_to}
 use Rattle.gw_control.specs.Moves.{Ends, Leaves, Loses, Takes, one_if, HasWholeCommands, IsSoundControls, IsWholeOrder}
 use Rattle.gw_control.proofs.Held.{end_frees_own, end_keeps_others, ended_frees, lost_frees, taking_holds}
@@ -37,7 +40,9 @@ use Rattle.gw_station.specs.Pump.{client_after_pump, client_by_offer, offered}
 use Rattle.gw_station.specs.Client.{Client, client_after_tick, client_after_up, client_with_news, is_started, is_timed_out, is_up}
 use Rattle.gw_station.specs.Sound.{IsSoundClient}
 use Rattle.gw_station.proofs.Sounds.{sound_told}
-use Rattle.gw_steps.specs.Controls.{client_told_of, clients_told, controls_after_all_ended, controls_after_closes, controls_with_ended, order_due, order_for, outcome_ended, outcomes_ended, outcomes_lost, said_of_outcome}
+use Rattle.gw_steps.specs.Controls.{client_told_of, clients_told, controls_after_all_ended}
+use Rattle.gw_steps.specs.Controls.{controls_after_closes, controls_with_ended, order_due, order_for}
+use Rattle.gw_steps.specs.Controls.{outcome_ended, outcomes_ended, outcomes_lost, said_of_outcome}
 use Rattle.gw_steps.specs.declared.step.Step.TheVariants as steps
 use Rattle.gw_steps.specs.State.{State}
 use Rattle.gw_steps.specs.declared.step.Reply.{Reply}

@@ -1,6 +1,7 @@
 -- What every hub keeps of its clients: outside of a session no news wait, and none were dropped.
 use Rattle.std.specs.Prelude.{replicate}
-use Rattle.std.proofs.Common.{◌≡◌, ℕ, zero, suc, Option, Some, None, List, [], ◌∷◌, drop, inl, inr, refl, sym, ap, subst, ◌∙◌, arith}
+use Rattle.std.proofs.Common.{◌≡◌, ℕ, zero, suc, Option, Some, None, List, [], ◌∷◌}
+use Rattle.std.proofs.Common.{drop, inl, inr, refl, sym, ap, subst, ◌∙◌, arith}
 use Rattle.std.specs.List.{AllByRecursion}
 use Rattle.std.proofs.lemmas.Bool.{cases_Bool}
 use Rattle.gw_model.specs.declared.observation.Observation.{Observation}
@@ -15,7 +16,8 @@ use Rattle.iec_window.specs.declared.limits.Limits.{Limits}
 use Rattle.gw_station.specs.declared.event.Why.{Why}
 use Rattle.gw_station.specs.declared.sending.Sending.{Sending}
 use Rattle.gw_station.specs.declared.sending.Sending.TheVariants as sendings
-use Rattle.gw_station.specs.Client.{Client, client_after_close, client_after_tick, client_after_up, client_down, client_with_news, is_started, is_timed_out}
+use Rattle.gw_station.specs.Client.{Client, client_after_close, client_after_tick, client_after_up}
+use Rattle.gw_station.specs.Client.{client_down, client_with_news, is_started, is_timed_out}
 use Rattle.gw_station.specs.Frames.{client_after_apdu, client_by, client_taking, client_with_session, close_of}
 use Rattle.gw_station.specs.Pump.{line, together, client_after_pump, client_by_offer, offered}
 use Rattle.gw_station.proofs.Front.{drop_none}

@@ -4,7 +4,8 @@ use Rattle.std.proofs.lemmas.Bool.{ltb-true}
 use Rattle.gw_steps.specs.State.{Counts}
 use Rattle.gw_steps.specs.Steps.{can_rise}
 use Rattle.gw_hub.specs.Hub.{step_with}
-use Rattle.std.proofs.Common.{◌≡◌, Bool, true, false, ltb, ℕ, ◌+◌, ◌^◌, ◌<◌, ◌≤◌, List, [], ◌∷◌, ◌++◌, map, length, refl, sym, ap, subst, ◌∙◌, arith}
+use Rattle.std.proofs.Common.{◌≡◌, Bool, true, false, ltb, ℕ, ◌+◌, ◌^◌, ◌<◌, ◌≤◌, List}
+use Rattle.std.proofs.Common.{[], ◌∷◌, ◌++◌, map, length, refl, sym, ap, subst, ◌∙◌, arith}
 use Rattle.std.specs.List.{AllByRecursion}
 use Rattle.std.proofs.lemmas.List.{length-append}
 use Rattle.gw_model.specs.declared.observation.Observation.{Observation}

@@ -1,5 +1,6 @@
 //! The core as one machine.
-ghost use Rattle.std.specs.Prelude.{◌≡◌, ◌<◌, ◌^◌, [], length, true, false, IfOk, IfErr, IsTrue, OnOk, OnErr, Some, if◌then◌else◌, slice_get};
+ghost use Rattle.std.specs.Prelude.{◌≡◌, ◌<◌, ◌^◌, [], length, true, false, IfOk, IfErr};
+ghost use Rattle.std.specs.Prelude.{IsTrue, OnOk, OnErr, Some, if◌then◌else◌, slice_get};
 ghost use Rattle.std.specs.List.{AllByRecursion};
 ghost use Rattle.gw_entries.specs.Ranges.{IsStation};
 ghost use Rattle.gw_map.specs.Settings.{HasSingleAddresses};
@@ -8,7 +9,8 @@ ghost use Rattle.gw_steps.specs.declared.step.StepFault.TheVariants.{Spent};
 ghost use Rattle.gw_steps.specs.State.{at_first, first_after};
 ghost use Rattle.gw_model.specs.Places.{change};
 ghost use Rattle.gw_steps.specs.Controls.{order_due};
-ghost use Rattle.gw_steps.specs.Steps.{can_order, can_rise, client_up, command_of, is_accepting, is_beginning, is_ordering, latest, one_if, order_ended, reply_of_event};
+ghost use Rattle.gw_steps.specs.Steps.{can_order, can_rise, client_up, command_of, is_accepting, is_beginning};
+ghost use Rattle.gw_steps.specs.Steps.{is_ordering, latest, one_if, order_ended, reply_of_event};
 ghost use Rattle.gw_steps.specs.Runs.{history, state_after, AtEach, IsRun};
 ghost use Rattle.gw_history.specs.Premises.{HasKnownRows, IsSoundRun, IsSoundSetup};
 ghost use Rattle.gw_laws.specs.Connections.{Connections};
@@ -21,7 +23,8 @@ ghost use Rattle.gw_told.specs.Tells.{Tells};
 ghost use Rattle.gw_orders.specs.Outcomes.{TellsDue};
 ghost use Rattle.gw_orders.specs.Commands.{AnswersCommands};
 ghost use Rattle.gw_orders.specs.Requests.{Requests};
-ghost use Rattle.gw_hub.specs.Hub.{can_count, can_take, controls_polled, state_counting, state_with_response, step_with, tally_of, verdict_by, Answers, IsCounted};
+ghost use Rattle.gw_hub.specs.Hub.{can_count, can_take, controls_polled, state_counting};
+ghost use Rattle.gw_hub.specs.Hub.{state_with_response, step_with, tally_of, verdict_by, Answers, IsCounted};
 
 use crate::common::Common;
 use crate::news::{lose_rows, take_reports};

@@ -1,5 +1,7 @@
 -- Where the first line feed is.
-use Rattle.std.proofs.Common.{◌≡◌, ◌≢◌, ℕ, ◌+◌, ◌<◌, Bool, true, not, eqb, eqb-true, List, [], ◌∷◌, ◌++◌, All, get_or, length, take, Some, None, sym, ap, ◌∙◌, arith, position, inl, inr, true≢false}
+use Rattle.std.proofs.Common.{◌≡◌, ◌≢◌, ℕ, ◌+◌, ◌<◌, Bool, true, not, eqb, eqb-true}
+use Rattle.std.proofs.Common.{List, [], ◌∷◌, ◌++◌, All, get_or, length, take, Some}
+use Rattle.std.proofs.Common.{None, sym, ap, ◌∙◌, arith, position, inl, inr, true≢false}
 use Rattle.std.proofs.lemmas.Bool.{eq-eqb, cases_lt, cond_below}
 use Rattle.std.proofs.lemmas.List.{get_or-take, take_more, length-take}
 use Rattle.std.proofs.lemmas.List.Quantifiers.{position-Some}

@@ -1,5 +1,6 @@
 -- What one read brings, and what was read and answered so far.
-use Rattle.std.specs.Prelude.{◌≡◌, ◌≢◌, ℕ, Bool, true, false, ⊤, List, [], ◌∷◌, ◌++◌, All, take, Option, Some, None}
+use Rattle.std.specs.Prelude.{◌≡◌, ◌≢◌, ℕ, Bool, true, false, ⊤, List, []}
+use Rattle.std.specs.Prelude.{◌∷◌, ◌++◌, All, take, Option, Some, None}
 use Rattle.std.specs.Io.KnownBytes.{Appends, Consumes, IsAtEnd, Keeps}
 use Rattle.gw_input.specs.declared.reading.Piece.{Piece}
 use Rattle.gw_input.specs.declared.reading.Piece.TheVariants.{Nothing, Part, Line, End}

@@ -1,5 +1,6 @@
 -- What is accepted is acceptable, and the other way round.
-use Rattle.std.proofs.Common.{◌≡◌, ◌↔◌, ℕ, ◌==◌, Bool, true, false, not, ◌&&◌, ◌||◌, ◌⊎◌, inl, inr, List, [], ◌∷◌, Option, Some, None, Result, Ok, Err, refl, sym, ap, ◌∙◌}
+use Rattle.std.proofs.Common.{◌≡◌, ◌↔◌, ℕ, ◌==◌, Bool, true, false, not, ◌&&◌, ◌||◌, ◌⊎◌, inl}
+use Rattle.std.proofs.Common.{inr, List, [], ◌∷◌, Option, Some, None, Result, Ok, Err, refl, sym, ap, ◌∙◌}
 use Rattle.std.proofs.lemmas.Bool.{eqb-true, eq-eqb, and_parts, and_from, or_cases, or_left, or_right, not-true, not_from_false}
 use Rattle.gw_model.specs.First.{when, first_of}
 use Rattle.gw_map.specs.Settings.{Setup, is_known, HasSingleAddresses}
@@ -10,7 +11,8 @@ use Rattle.iec_command.specs.declared.fault.CommandFault.{CommandFault}
 use Rattle.iec_command.specs.declared.fault.CommandFault.TheVariants.{UnknownType}
 use Rattle.iec_command.specs.Commands.{command_of}
 use Rattle.gw_judge.specs.declared.judging.Judged.TheVariants.{Accepted}
-use Rattle.gw_judge.specs.Judging.{is_known_cause, has_known_cause, is_for_all, is_addressed, has_object, refusal_of, judged_by, judged_reading, judged}
+use Rattle.gw_judge.specs.Judging.{is_known_cause, has_known_cause, is_for_all, is_addressed}
+use Rattle.gw_judge.specs.Judging.{has_object, refusal_of, judged_by, judged_reading, judged}
 use Rattle.gw_judge.specs.Acceptable.{HasAddress, IsCauseOf, HasKnownCause, IsFor, IsAcceptable, object_for}
 use Rattle.gw_judge.proofs.Addresses.{address_there, address_known}
 use Rattle.gw_judge.proofs.Objects.{object_there, object_found}

@@ -1,5 +1,6 @@
 -- Each cause with which an ASDU is sent back, and what closes the connection.
-use Rattle.std.proofs.Common.{◌≡◌, ◌↔◌, ℕ, ◌+◌, ◌==◌, Bool, true, false, not, ◌&&◌, inl, inr, List, [], ◌∷◌, length, Option, Some, None, Result, Ok, Err, refl, sym, ap, ◌∙◌, arith}
+use Rattle.std.proofs.Common.{◌≡◌, ◌↔◌, ℕ, ◌+◌, ◌==◌, Bool, true, false, not, ◌&&◌, inl, inr, List, []}
+use Rattle.std.proofs.Common.{◌∷◌, length, Option, Some, None, Result, Ok, Err, refl, sym, ap, ◌∙◌, arith}
 use Rattle.std.specs.Prelude.{nat_lt, slice_index}
 use Rattle.std.proofs.lemmas.Bool.{cases_Bool, eqb-true, eq-eqb, true≢false, ltb-false, ltb-true, le-ltb, lt-ltb}
 use Rattle.std.proofs.lemmas.Option.{same_Some}
@@ -15,7 +16,8 @@ use Rattle.gw_judge.specs.declared.judging.Judged.{Judged}
 use Rattle.gw_judge.specs.declared.judging.Judged.TheVariants.{Malformed, Refuse}
 use Rattle.gw_judge.specs.Judging.{has_known_cause, is_addressed, has_object, is_execute, refusal_of, judged_by, judged_reading, judged}
 use Rattle.gw_judge.specs.Acceptable.{HasKnownCause, IsFor, HasObject, object_for}
-use Rattle.gw_judge.specs.Refusals.{HasKnownType, IsMalformed, HasUnknownType, HasUnknownCause, HasUnknownStation, HasUnknownObject, ComesBackWith}
+use Rattle.gw_judge.specs.Refusals.{HasKnownType, IsMalformed, HasUnknownType, HasUnknownCause}
+use Rattle.gw_judge.specs.Refusals.{HasUnknownStation, HasUnknownObject, ComesBackWith}
 use Rattle.gw_judge.proofs.Accepted.{cause_is, is_cause, station_is, is_station, first_refusal}
 use Rattle.gw_judge.proofs.Objects.{object_there, object_found}
 use Rattle.gw_judge.proofs.Refused.{cut_short, cause_within}

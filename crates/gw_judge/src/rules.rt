@@ -1,7 +1,8 @@
 //! The rules for commands, one by one.
 ghost use Rattle.std.specs.Prelude.{◌≡◌};
 ghost use Rattle.gw_map.specs.Settings.{row_at_from, control_at_from};
-ghost use Rattle.gw_judge.specs.Judging.{executes, has_known_cause, has_object, is_addressed, is_execute, is_for_all, is_known_cause, is_operated_by, is_operated, is_readable};
+ghost use Rattle.gw_judge.specs.Judging.{executes, has_known_cause, has_object, is_addressed, is_execute};
+ghost use Rattle.gw_judge.specs.Judging.{is_for_all, is_known_cause, is_operated_by, is_operated, is_readable};
 
 use gw_map::{Operates, Settings, Show};
 use iec_command::causes::{ACTIVATION, DEACTIVATION, REQUEST};

@@ -1,5 +1,6 @@
 -- What ties the I formats that a client has acknowledged to its turns.
-use Rattle.std.proofs.Common.{◌≡◌, ℕ, ◌+◌, ◌-◌, ◌<◌, ◌≤◌, true, leb, ltb, List, ◌∷◌, map, length, refl, sym, ap, ◌∙◌, arith, inl, inr}
+use Rattle.std.proofs.Common.{◌≡◌, ℕ, ◌+◌, ◌-◌, ◌<◌, ◌≤◌, true, leb, ltb, List}
+use Rattle.std.proofs.Common.{◌∷◌, map, length, refl, sym, ap, ◌∙◌, arith, inl, inr}
 use Rattle.std.proofs.lemmas.Bool.{cases_Bool, le-leb, leb-true, ltb-true, true≢false}
 use Rattle.gw_model.specs.Clocks.{Clocks}
 use Rattle.gw_map.specs.Settings.{Setup, station_clocks}

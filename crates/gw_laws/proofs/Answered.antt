@@ -1,5 +1,6 @@
 -- The answer to an interrogation is the one that is due, row by row.
-use Rattle.std.proofs.Common.{◌≡◌, ℕ, Bool, true, false, cond, ◌&&◌, ◌==◌, List, [], ◌∷◌, ◌++◌, length, map, Option, Some, None, refl, ap, ap₂, subst, inl, inr}
+use Rattle.std.proofs.Common.{◌≡◌, ℕ, Bool, true, false, cond, ◌&&◌, ◌==◌, List, [], ◌∷◌}
+use Rattle.std.proofs.Common.{◌++◌, length, map, Option, Some, None, refl, ap, ap₂, subst, inl, inr}
 use Rattle.std.specs.Prelude.{not, option_map, filter, zip, flat_map, IfSome}
 use Rattle.std.proofs.lemmas.Bool.{and_parts, cases_Bool}
 use Rattle.gw_model.specs.declared.observation.Value.{Value}
@@ -30,7 +31,9 @@ use Rattle.gw_history.specs.Life.{Taking, Turn, Idle, Takes, PutsOut, Ends, sess
 use Rattle.gw_history.proofs.Logged.{IsLogged, logged}
 use Rattle.gw_history.proofs.Places.{Place, of_each}
 use Rattle.gw_laws.specs.Fates.{fates}
-use Rattle.gw_laws.specs.Interrogations.{Interrogation, is_pending, answer_told, interrogation_telling, begun, interrogation, shows_total, is_due, rows_due, cause_due, section_due, answer_due, IsAnsweredInOrder, Interrogations}
+use Rattle.gw_laws.specs.Interrogations.{Interrogation, is_pending, answer_told, interrogation_telling}
+use Rattle.gw_laws.specs.Interrogations.{begun, interrogation, shows_total, is_due, rows_due, cause_due}
+use Rattle.gw_laws.specs.Interrogations.{section_due, answer_due, IsAnsweredInOrder, Interrogations}
 use Rattle.gw_laws.proofs.Line.{IsToldInOrder, told_in_order}
 
 -- ---- rows

@@ -1,5 +1,6 @@
 -- At each place of a run there are eight clients.
-use Rattle.std.proofs.Common.{◌≡◌, ℕ, Bool, true, false, cond, List, [], ◌∷◌, length, map, Option, Some, None, Result, Ok, Err, refl, ◌∙◌}
+use Rattle.std.proofs.Common.{◌≡◌, ℕ, Bool, true, false, cond, List, [], ◌∷◌, length}
+use Rattle.std.proofs.Common.{map, Option, Some, None, Result, Ok, Err, refl, ◌∙◌}
 use Rattle.std.proofs.lemmas.List.{length-map}
 use Rattle.gw_model.specs.declared.control.Order.{Order}
 use Rattle.gw_model.specs.declared.observation.Observation.{Observation}
@@ -13,7 +14,8 @@ use Rattle.gw_steps.specs.declared.step.Reply.{Reply}
 use Rattle.gw_steps.specs.declared.step.StepFault.{StepFault}
 use Rattle.gw_steps.specs.Controls.{order_due}
 use Rattle.gw_steps.specs.State.{State}
-use Rattle.gw_steps.specs.Steps.{after, is_accepting, latest, losses, outcomes_of_fragment, outcomes_of_loss, outcomes_of_tick, parts_after_fragment, parts_after_poll}
+use Rattle.gw_steps.specs.Steps.{after, is_accepting, latest, losses, outcomes_of_fragment}
+use Rattle.gw_steps.specs.Steps.{outcomes_of_loss, outcomes_of_tick, parts_after_fragment, parts_after_poll}
 use Rattle.gw_steps.specs.Runs.{Entry, state_after}
 use Rattle.gw_steps.proofs.Running.{entry}
 use Rattle.gw_history.proofs.Told.{told_length}

@@ -1,5 +1,6 @@
 -- An APDU closes the connection for the first cause that holds.
-use Rattle.std.proofs.Common.{◌≡◌, ℕ, ◌+◌, ◌%◌, ◌<◌, Bool, true, false, List, [], ◌∷◌, length, Option, Some, None, Result, Ok, Err, refl, sym, ap, subst, ◌∙◌, arith}
+use Rattle.std.proofs.Common.{◌≡◌, ℕ, ◌+◌, ◌%◌, ◌<◌, Bool, true, false, List, [], ◌∷◌, length}
+use Rattle.std.proofs.Common.{Option, Some, None, Result, Ok, Err, refl, sym, ap, subst, ◌∙◌, arith}
 use Rattle.std.specs.Prelude.{◌==◌, ◌&&◌, not, is_none, is_some, nat_le, nat_lt, slice_get, IfSome}
 use Rattle.std.proofs.lemmas.Bool.{true≢false}
 use Rattle.gw_model.specs.First.{when, first_of}
@@ -40,7 +41,8 @@ use Rattle.gw_laws.proofs.Held.{HeldTied, held_tied}
 use Rattle.gw_laws.proofs.Line.{LineTied, pending_told, line_tied}
 use Rattle.gw_laws.proofs.News.{NewsTied, news_tied, stands}
 use Rattle.gw_laws.proofs.Numbers.{WindowTied, counts_tied}
-use Rattle.gw_laws.specs.Closes.{Closes, ClosesBy, acknowledged, causes, close_due, is_malformed, is_right_receive as is_right, places_with, reply_for}
+use Rattle.gw_laws.specs.Closes.{Closes, ClosesBy, acknowledged, causes, close_due, is_malformed}
+use Rattle.gw_laws.specs.Closes.{is_right_receive as is_right, places_with, reply_for}
 use Rattle.gw_laws.specs.Connection.{Connection, OfStanding, connection, turns}
 use Rattle.gw_laws.specs.Signals.{waiting}
 use Rattle.gw_laws.proofs.Links.{AllLinked, ClientLinked, SlotLinked}

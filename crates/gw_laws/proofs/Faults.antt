@@ -1,5 +1,6 @@
 -- Why a step isn't made.
-use Rattle.std.proofs.Common.{◌≡◌, ℕ, ◌+◌, ◌^◌, ◌<◌, Bool, true, false, ltb, List, [], ◌∷◌, ◌++◌, length, Option, Some, None, Result, Ok, Err, refl, sym, ap, subst, ◌∙◌, arith, inl, inr}
+use Rattle.std.proofs.Common.{◌≡◌, ℕ, ◌+◌, ◌^◌, ◌<◌, Bool, true, false, ltb, List, [], ◌∷◌, ◌++◌, length}
+use Rattle.std.proofs.Common.{Option, Some, None, Result, Ok, Err, refl, sym, ap, subst, ◌∙◌, arith, inl, inr}
 use Rattle.std.specs.Prelude.{◌&&◌, ◌||◌, not, is_some, nat_le, nat_lt, option_map, IsTrue}
 use Rattle.std.proofs.lemmas.Bool.{and_parts, cases_Bool, le-leb, le-ltb, lt-leb, lt-ltb, ltb-false, ltb-true}
 use Rattle.gw_model.specs.First.{when, first_of}
@@ -13,7 +14,8 @@ use Rattle.gw_steps.specs.declared.step.Reply.{Reply}
 use Rattle.gw_steps.specs.declared.step.StepFault.{StepFault}
 use Rattle.gw_steps.specs.declared.step.StepFault.TheVariants.{NoOutstation, NoClient, NotUp, AlreadyUp, Memory, Spent}
 use Rattle.gw_steps.specs.State.{State}
-use Rattle.gw_steps.specs.Steps.{Allowed, after, answer, can_be_counted, can_order, can_rise, client_up, fault_of, fault_unless_down, fault_unless_up, needs, one_if, outcome, outstation_up, reply_to}
+use Rattle.gw_steps.specs.Steps.{Allowed, after, answer, can_be_counted, can_order, can_rise, client_up, fault_of}
+use Rattle.gw_steps.specs.Steps.{fault_unless_down, fault_unless_up, needs, one_if, outcome, outstation_up, reply_to}
 use Rattle.gw_steps.specs.Runs.{AtEach, Entry, state_after}
 use Rattle.gw_steps.proofs.Inversion.{answered}
 use Rattle.gw_steps.proofs.Running.{entry}
@@ -23,7 +25,8 @@ use Rattle.gw_history.specs.Up.{is_outstation_up}
 use Rattle.gw_history.proofs.Places.{Known, Place, SlotLives}
 use Rattle.gw_history.proofs.Ups.{told_up}
 use Rattle.gw_laws.specs.Connection.{Connection, connection}
-use Rattle.gw_laws.specs.Faults.{Faults, FaultsBy, count, fault_due, faults_of_actor, is_client_up, is_spent, is_spent_of, news_added, one_step, orders_added, sessions_added}
+use Rattle.gw_laws.specs.Faults.{Faults, FaultsBy, count, fault_due, faults_of_actor, is_client_up}
+use Rattle.gw_laws.specs.Faults.{is_spent, is_spent_of, news_added, one_step, orders_added, sessions_added}
 use Rattle.gw_laws.proofs.Clients.{eight_clients}
 use Rattle.gw_laws.proofs.Links.{AllLinked, ClientLinked, SlotLinked}
 use Rattle.gw_laws.proofs.Needs.{NeedsTold, needs_told}

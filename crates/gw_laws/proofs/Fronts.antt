@@ -1,5 +1,7 @@
 -- What goes out together: what it means, and what it leaves.
-use Rattle.std.proofs.Common.{◌≡◌, ℕ, zero, suc, ◌≤◌, ◌==◌, ◌&&◌, Bool, true, false, List, [], ◌∷◌, ◌++◌, map, length, take, drop, Option, Some, refl, sym, ap, subst, ◌∙◌, arith, inl, inr, if◌then◌else◌}
+use Rattle.std.proofs.Common.{◌≡◌, ℕ, zero, suc, ◌≤◌, ◌==◌, ◌&&◌, Bool, true, false}
+use Rattle.std.proofs.Common.{List, [], ◌∷◌, ◌++◌, map, length, take, drop, Option, Some}
+use Rattle.std.proofs.Common.{refl, sym, ap, subst, ◌∙◌, arith, inl, inr, if◌then◌else◌}
 use Rattle.std.specs.Prelude.{◌⊎◌, slice_get}
 use Rattle.std.specs.List.{AllByRecursion}
 use Rattle.std.proofs.lemmas.Bool.{eq-eqb, eqb-true, and_parts}
@@ -22,7 +24,8 @@ use Rattle.gw_station.specs.Kept.{parts_front, parts_together}
 use Rattle.gw_station.specs.Pump.{line, news_front, rows_front, together, part_octets}
 use Rattle.gw_station.specs.Sound.{CanSend}
 use Rattle.gw_station.proofs.All.{all-take}
-use Rattle.gw_station.proofs.Front.{news_sendable, rows_sendable, news_together, news_first, part_first, rows_run, parts_same, next_front, next_within}
+use Rattle.gw_station.proofs.Front.{news_sendable, rows_sendable, news_together, news_first}
+use Rattle.gw_station.proofs.Front.{part_first, rows_run, parts_same, next_front, next_within}
 use Rattle.gw_laws.specs.Fates.{spontaneous_of}
 use Rattle.gw_laws.specs.Interrogations.{parts_in}
 use Rattle.gw_laws.specs.Line.{MeansFront, SaysFirst}

@@ -1,9 +1,11 @@
 -- News join those of which none was dropped since a mark, and what is put out drops none.
-use Rattle.std.proofs.Common.{◌≡◌, ℕ, zero, suc, ◌+◌, ◌-◌, ◌≤◌, true, false, cond, List, [], ◌∷◌, ◌++◌, map, length, take, drop, refl, sym, ap, ◌∙◌, append_assoc, arith, inl, inr}
+use Rattle.std.proofs.Common.{◌≡◌, ℕ, zero, suc, ◌+◌, ◌-◌, ◌≤◌, true, false, cond, List, [], ◌∷◌}
+use Rattle.std.proofs.Common.{◌++◌, map, length, take, drop, refl, sym, ap, ◌∙◌, append_assoc, arith, inl, inr}
 use Rattle.std.proofs.lemmas.Bool.{cases_Bool}
 use Rattle.std.proofs.lemmas.List.{append-nil, length-append, take-append-le, drop-append-le}
 use Rattle.gw_model.specs.declared.observation.Observation.{Observation}
-use Rattle.gw_laws.specs.Fates.{Fate, Queued, PutOut, Dropped, Element, is_queued, is_dropped, dropped_fate, lapse_first, lapse, use_up, items_of, fates_with_news, fates_with_put_out}
+use Rattle.gw_laws.specs.Fates.{Fate, Queued, PutOut, Dropped, Element, is_queued, is_dropped, dropped_fate}
+use Rattle.gw_laws.specs.Fates.{lapse_first, lapse, use_up, items_of, fates_with_news, fates_with_put_out}
 use Rattle.gw_laws.proofs.Settled.{queued, items_of-append, length-lapse}
 
 -- ---- what lapses

@@ -2,7 +2,8 @@
 use Rattle.std.specs.Option.{option_to_list}
 use Rattle.std.specs.Prelude.{IfSome, slice_get}
 use Rattle.std.specs.List.{AllByRecursion}
-use Rattle.std.proofs.Common.{ℕ, zero, suc, Bool, true, false, cond, List, [], ◌∷◌, ◌++◌, map, Option, Some, None, Result, Ok, Err}
+use Rattle.std.proofs.Common.{ℕ, zero, suc, Bool, true, false, cond, List, []}
+use Rattle.std.proofs.Common.{◌∷◌, ◌++◌, map, Option, Some, None, Result, Ok, Err}
 use Rattle.gw_model.specs.declared.control.Ended.{Ended}
 use Rattle.gw_model.specs.declared.control.Order.{Order}
 use Rattle.gw_map.specs.Settings.{Setup}
@@ -24,8 +25,12 @@ use Rattle.gw_steps.specs.declared.step.Step.TheVariants as steps
 use Rattle.gw_steps.specs.declared.step.Reply.{Reply}
 use Rattle.gw_steps.specs.declared.step.StepFault.{StepFault}
 use Rattle.gw_steps.specs.State.{State}
-use Rattle.gw_steps.specs.Controls.{asked_by, controls_after_all_ended, controls_after_closes, controls_after_event, controls_after_taken, controls_with_ended, ended_lost, order_due, outcome_ended, outcomes_ended, outcomes_lost}
-use Rattle.gw_steps.specs.Steps.{after, controls_after_frame, controls_closed, ended_late, is_accepting, latest, order_ended, outcomes_of, outcomes_of_loss, outcomes_of_tick, parts_after_fragment, parts_after_poll}
+use Rattle.gw_steps.specs.Controls.{asked_by, controls_after_all_ended, controls_after_closes}
+use Rattle.gw_steps.specs.Controls.{controls_after_event, controls_after_taken, controls_with_ended}
+use Rattle.gw_steps.specs.Controls.{ended_lost, order_due, outcome_ended, outcomes_ended, outcomes_lost}
+use Rattle.gw_steps.specs.Steps.{after, controls_after_frame, controls_closed, ended_late}
+use Rattle.gw_steps.specs.Steps.{is_accepting, latest, order_ended, outcomes_of, outcomes_of_loss}
+use Rattle.gw_steps.specs.Steps.{outcomes_of_tick, parts_after_fragment, parts_after_poll}
 use Rattle.gw_steps.specs.Runs.{Entry, state_after, unless_fault}
 use Rattle.gw_control.proofs.Commands.{OfMove, all_stay, ended_has, lost_has, none_at_first}
 use Rattle.gw_laws.proofs.KnownCommands.{IsKnownCommand, command_known}

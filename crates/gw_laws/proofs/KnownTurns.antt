@@ -1,7 +1,8 @@
 -- What comes to clients in the turns of their lives, and what the picture shows in them, is under known common addresses.
 use Rattle.std.specs.Prelude.{IfSome, IsTrue, slice_get}
 use Rattle.std.specs.List.{AllByRecursion}
-use Rattle.std.proofs.Common.{◌≡◌, ℕ, ◌+◌, Bool, true, false, cond, ◌==◌, List, [], ◌∷◌, ◌++◌, Option, Some, None, Result, Ok, Err, refl, ap, ◌∙◌}
+use Rattle.std.proofs.Common.{◌≡◌, ℕ, ◌+◌, Bool, true, false, cond, ◌==◌, List, [], ◌∷◌}
+use Rattle.std.proofs.Common.{◌++◌, Option, Some, None, Result, Ok, Err, refl, ap, ◌∙◌}
 use Rattle.gw_model.specs.Clocks.{Clocks}
 use Rattle.gw_model.specs.Keys.{same_key}
 use Rattle.gw_model.specs.declared.observation.Observation.{Observation}
@@ -31,7 +32,9 @@ use Rattle.gw_steps.specs.Said.{ApduMeaning, said}
 use Rattle.gw_steps.specs.Runs.{Entry, state_after}
 use Rattle.gw_history.specs.Accepted.{is_accepted}
 use Rattle.gw_history.specs.Log.{log_of, news_after_log, news_of_step}
-use Rattle.gw_history.specs.Life.{Turn, Idle, Takes, PutsOut, Ends, bringing, nothing_new, puts_out, turn_taking, turn_giving, is_closed_in, outcomes_in, outcomes_for, said_in, turn_with, turn_of, lived, life}
+use Rattle.gw_history.specs.Life.{Turn, Idle, Takes, PutsOut, Ends, bringing, nothing_new}
+use Rattle.gw_history.specs.Life.{puts_out, turn_taking, turn_giving, is_closed_in, outcomes_in}
+use Rattle.gw_history.specs.Life.{outcomes_for, said_in, turn_with, turn_of, lived, life}
 use Rattle.gw_history.specs.Premises.{HasKnownRows}
 use Rattle.gw_history.proofs.Told.{filter_all}
 use Rattle.gw_laws.proofs.KnownCommands.{IsKnownObservation}

@@ -1,7 +1,8 @@
 -- What waits for a client is under known common addresses.
 use Rattle.std.specs.Prelude.{IfSome}
 use Rattle.std.specs.List.{AllByRecursion}
-use Rattle.std.proofs.Common.{◌≡◌, ℕ, ◌-◌, Bool, true, false, cond, List, [], ◌∷◌, ◌++◌, length, map, Option, Some, None, sym, subst}
+use Rattle.std.proofs.Common.{◌≡◌, ℕ, ◌-◌, Bool, true, false, cond, List, [], ◌∷◌}
+use Rattle.std.proofs.Common.{◌++◌, length, map, Option, Some, None, sym, subst}
 use Rattle.gw_model.specs.Clocks.{Clocks}
 use Rattle.gw_model.specs.declared.observation.Observation.{Observation}
 use Rattle.gw_map.specs.Settings.{Setup, station_clocks}
@@ -30,7 +31,8 @@ use Rattle.gw_steps.specs.Controls.{client_told_all, client_told_of, said_of_out
 use Rattle.gw_steps.specs.Steps.{client_answered}
 use Rattle.gw_history.specs.Life.{Taking, Turn, Idle, Takes, PutsOut, Ends}
 use Rattle.gw_history.proofs.Lives.{Becomes, IsFresh, Lives, lives_all}
-use Rattle.gw_laws.proofs.KnownCommands.{IsKnownAnswer, IsKnownAsdu, IsKnownCommand, IsKnownObservation, answer_at_once_known, asdu_judged_for, command_known, rest_known, told_known}
+use Rattle.gw_laws.proofs.KnownCommands.{IsKnownAnswer, IsKnownAsdu, IsKnownCommand, IsKnownObservation}
+use Rattle.gw_laws.proofs.KnownCommands.{answer_at_once_known, asdu_judged_for, command_known, rest_known, told_known}
 use Rattle.gw_laws.proofs.KnownOrders.{IsKnownOutcome}
 use Rattle.gw_laws.proofs.KnownTurns.{IsKnownTurn}
 

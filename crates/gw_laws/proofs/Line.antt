@@ -1,5 +1,7 @@
 -- What ties what waits for a client to its session.
-use Rattle.std.proofs.Common.{◌≡◌, ℕ, zero, suc, ◌+◌, ◌-◌, ◌<◌, ◌≤◌, Bool, true, false, List, [], ◌∷◌, ◌++◌, map, length, take, drop, Option, Some, None, refl, sym, ap, subst, ◌∙◌, append_assoc, arith, inl, inr}
+use Rattle.std.proofs.Common.{◌≡◌, ℕ, zero, suc, ◌+◌, ◌-◌, ◌<◌, ◌≤◌, Bool, true, false}
+use Rattle.std.proofs.Common.{List, [], ◌∷◌, ◌++◌, map, length, take, drop, Option, Some}
+use Rattle.std.proofs.Common.{None, refl, sym, ap, subst, ◌∙◌, append_assoc, arith, inl, inr}
 use Rattle.std.proofs.Math.Bool.{and-false}
 use Rattle.std.specs.Prelude.{option_map, slice_get, IfSome}
 use Rattle.std.specs.Option.{option_to_list}
@@ -48,12 +50,14 @@ use Rattle.gw_steps.specs.Said.{ApduMeaning}
 use Rattle.gw_history.specs.Life.{Brought, Taking, Turn, Idle, Takes, PutsOut, Ends, session_with, session, turns_in}
 use Rattle.gw_history.proofs.Lives.{Becomes, Came, IsOperating, Lives, lives_all}
 use Rattle.gw_laws.specs.Fates.{spontaneous_of, Element, is_queued, items_of, fates, fates_with_put_out}
-use Rattle.gw_laws.specs.Interrogations.{Interrogation, parts_in, is_pending, answer_told, interrogation_telling, IsAnsweredInOrder, begun, interrogation}
+use Rattle.gw_laws.specs.Interrogations.{Interrogation, parts_in, is_pending, answer_told}
+use Rattle.gw_laws.specs.Interrogations.{interrogation_telling, IsAnsweredInOrder, begun, interrogation}
 use Rattle.gw_laws.specs.Line.{answers_to, told_of, told_outcomes, since_of, left_of, SaysFirst, owed, line, KeepsLine}
 use Rattle.gw_laws.proofs.Offered.{IsOffered, offered_is}
 use Rattle.gw_laws.proofs.Fronts.{says_front, news_go, parts_go}
 use Rattle.gw_laws.proofs.Settled.{queued, take_queued, drop_queued, length-came, length-gone}
-use Rattle.gw_laws.proofs.Parts.{answer_no_news, IsApart, IsOfInterrogation, answer_apart, news_apart, told_nothing, accepted_is, answer_is, pending_is, said_more, left_more, nothing_asked}
+use Rattle.gw_laws.proofs.Parts.{answer_no_news, IsApart, IsOfInterrogation, answer_apart, news_apart, told_nothing}
+use Rattle.gw_laws.proofs.Parts.{accepted_is, answer_is, pending_is, said_more, left_more, nothing_asked}
 use Rattle.gw_laws.proofs.Told.{all_joined, answers_told, command_apart, outcomes_apart, same_beside}
 use Rattle.gw_laws.proofs.Numbers.{says}
 use Rattle.gw_laws.proofs.News.{InSession, NewsTied, news_tied}

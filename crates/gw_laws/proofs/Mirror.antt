@@ -1,5 +1,6 @@
 -- What is known of the picture by what was put out and what waits: how each turn keeps it.
-use Rattle.std.proofs.Common.{◌≡◌, ℕ, ◌≤◌, Bool, true, false, eqb, List, [], ◌∷◌, ◌++◌, map, length, drop, Option, Some, None, refl, sym, ap, subst, ◌∙◌, arith, inl, inr}
+use Rattle.std.proofs.Common.{◌≡◌, ℕ, ◌≤◌, Bool, true, false, eqb, List, [], ◌∷◌, ◌++◌, map, length}
+use Rattle.std.proofs.Common.{drop, Option, Some, None, refl, sym, ap, subst, ◌∙◌, arith, inl, inr}
 use Rattle.std.specs.Prelude.{◌&&◌, ◌==◌, nat_lt, not, slice_get, option_map, IfSome}
 use Rattle.std.specs.List.{AllByRecursion}
 use Rattle.std.specs.Option.{option_to_list}
@@ -52,12 +53,14 @@ use Rattle.gw_history.proofs.Places.{SlotLives, Place}
 use Rattle.gw_laws.specs.Fates.{spontaneous_of, fates}
 use Rattle.gw_laws.specs.Interrogations.{Interrogation, is_pending, interrogation_of, begun, interrogation}
 use Rattle.gw_laws.specs.Line.{answers_to, told_of, told_outcomes, since_of, left_of, MeansFront, owed, line}
-use Rattle.gw_laws.specs.Mirror.{observations_of, waiting_in, is_station_interrogation, told, asked_by, asked_in, MirrorsPicture, Mirrors, Mirror}
+use Rattle.gw_laws.specs.Mirror.{observations_of, waiting_in, is_station_interrogation}
+use Rattle.gw_laws.specs.Mirror.{told, asked_by, asked_in, MirrorsPicture, Mirrors, Mirror}
 use Rattle.gw_laws.proofs.Offered.{IsOffered, offered_is}
 use Rattle.gw_laws.proofs.Fronts.{says_front}
 use Rattle.gw_laws.proofs.Known.{IsShown, shown_is, knows_picture}
 use Rattle.gw_laws.proofs.Waits.{IsPlain, waiting_in-append}
-use Rattle.gw_laws.proofs.Watches.{View, line_in, IsKept, came as news_came, kept_came, put_out, PutsFirst, kept_put_out, taken, begun as watched, kept_taken, IsNew, unheard_begun, heard_begun}
+use Rattle.gw_laws.proofs.Watches.{View, line_in, IsKept, came as news_came, kept_came, put_out, PutsFirst}
+use Rattle.gw_laws.proofs.Watches.{kept_put_out, taken, begun as watched, kept_taken, IsNew, unheard_begun, heard_begun}
 use Rattle.gw_laws.proofs.Parts.{nothing_asked, terminations}
 use Rattle.gw_laws.proofs.Told.{command_none, outcomes_none}
 use Rattle.gw_laws.proofs.Numbers.{says}

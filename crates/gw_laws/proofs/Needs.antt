@@ -1,5 +1,6 @@
 -- What a step needs is what the history tells that it adds.
-use Rattle.std.proofs.Common.{◌≡◌, ℕ, ◌<◌, Bool, true, false, cond, List, [], ◌∷◌, length, Option, Some, None, refl, sym, ap, subst, ◌∙◌}
+use Rattle.std.proofs.Common.{◌≡◌, ℕ, ◌<◌, Bool, true, false, cond, List, [], ◌∷◌}
+use Rattle.std.proofs.Common.{length, Option, Some, None, refl, sym, ap, subst, ◌∙◌}
 use Rattle.std.specs.Prelude.{◌&&◌, not, is_none, slice_get, IfSome}
 use Rattle.std.proofs.lemmas.Bool.{true≢false}
 use Rattle.gw_model.specs.First.{when, first_of}
@@ -27,7 +28,8 @@ use Rattle.gw_steps.specs.declared.step.Step.TheVariants as steps
 use Rattle.gw_steps.specs.declared.step.StepFault.TheVariants.{NoClient, NoOutstation}
 use Rattle.gw_steps.specs.Controls.{answer_to, said_by}
 use Rattle.gw_steps.specs.State.{State}
-use Rattle.gw_steps.specs.Steps.{begun_by, command_of, fault_of, is_accepting, is_ordering, latest, needs, news_of_fragment, one_if, said_to, wanted_by}
+use Rattle.gw_steps.specs.Steps.{begun_by, command_of, fault_of, is_accepting, is_ordering}
+use Rattle.gw_steps.specs.Steps.{latest, needs, news_of_fragment, one_if, said_to, wanted_by}
 use Rattle.gw_steps.specs.Runs.{Entry, state_after}
 use Rattle.gw_steps.proofs.Inversion.{who_is_up}
 use Rattle.gw_history.specs.Accepted.{is_accepted}
@@ -39,7 +41,8 @@ use Rattle.gw_history.proofs.Masters.{MasterTied, same_accepted}
 use Rattle.gw_history.proofs.Pictures.{news_same}
 use Rattle.gw_history.proofs.Places.{Known, SlotLives}
 use Rattle.gw_laws.specs.Connection.{Connection, connection, is_so, turns}
-use Rattle.gw_laws.specs.Faults.{begins, interrogates, is_act, is_ordered, is_taken, news_added, orders, orders_added, sessions_added, wants_memory}
+use Rattle.gw_laws.specs.Faults.{begins, interrogates, is_act, is_ordered, is_taken, news_added}
+use Rattle.gw_laws.specs.Faults.{orders, orders_added, sessions_added, wants_memory}
 use Rattle.gw_laws.specs.Interrogations.{interrogation, is_pending}
 use Rattle.gw_laws.proofs.Closes.{Ties, not_standing, same_close, ties}
 use Rattle.gw_laws.proofs.Line.{LineTied, pending_told}

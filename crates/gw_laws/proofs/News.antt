@@ -1,5 +1,6 @@
 -- What ties a client's news to its session.
-use Rattle.std.proofs.Common.{◌≡◌, ℕ, ◌-◌, ◌<◌, ◌≤◌, Bool, true, false, List, [], ◌∷◌, ◌++◌, map, length, take, drop, Option, Some, None, refl, sym, ap, subst, ◌∙◌, arith, inl, inr}
+use Rattle.std.proofs.Common.{◌≡◌, ℕ, ◌-◌, ◌<◌, ◌≤◌, Bool, true, false, List, [], ◌∷◌, ◌++◌, map}
+use Rattle.std.proofs.Common.{length, take, drop, Option, Some, None, refl, sym, ap, subst, ◌∙◌, arith, inl, inr}
 use Rattle.std.specs.Prelude.{◌⊎◌, ◌==◌, ◌||◌, is_some, IfSome, IsTrue}
 use Rattle.std.specs.List.{AllByRecursion}
 use Rattle.std.proofs.lemmas.Bool.{true≢false}
@@ -52,7 +53,8 @@ use Rattle.gw_history.specs.Premises.{client_at}
 use Rattle.gw_history.specs.Life.{Brought, Taking, Turn, Idle, Takes, PutsOut, Ends, session_with, session, turns_in, life}
 use Rattle.gw_history.proofs.Places.{Place, SlotLives, of_each}
 use Rattle.gw_history.proofs.Lives.{Becomes, Came, IsFresh, Lives, lives_all}
-use Rattle.gw_laws.specs.Fates.{spontaneous_of, spontaneous_in, Element, is_put_out, is_dropped, items_of, fates, gone, fates_with_news, fates_with_put_out}
+use Rattle.gw_laws.specs.Fates.{spontaneous_of, spontaneous_in, Element, is_put_out, is_dropped}
+use Rattle.gw_laws.specs.Fates.{items_of, fates, gone, fates_with_news, fates_with_put_out}
 use Rattle.gw_laws.specs.Line.{MeansFront}
 use Rattle.gw_laws.specs.News.{IsOfStation, TellsNews, Speaks, News}
 use Rattle.gw_laws.proofs.KnownCommands.{IsKnownAnswer, IsKnownObservation}
@@ -62,7 +64,8 @@ use Rattle.gw_laws.proofs.Offered.{IsOffered, offered_is}
 use Rattle.gw_laws.proofs.Fronts.{says_front, NewsGo, news_go, parts_no_news}
 use Rattle.gw_laws.proofs.Parts.{IsRequested, answer_no_news}
 use Rattle.gw_station.proofs.Opens.{open_i}
-use Rattle.gw_laws.proofs.Settled.{put, AreSettled, before_queue, queue_shrinks, settled_more, kept_in, queued_in, dropped_in, put_out_more, dropped_same, grown}
+use Rattle.gw_laws.proofs.Settled.{put, AreSettled, before_queue, queue_shrinks, settled_more}
+use Rattle.gw_laws.proofs.Settled.{kept_in, queued_in, dropped_in, put_out_more, dropped_same, grown}
 use Rattle.gw_laws.proofs.Told.{same_beside}
 use Rattle.gw_laws.proofs.Numbers.{says, counts_tied}
 

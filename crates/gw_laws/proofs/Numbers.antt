@@ -1,5 +1,6 @@
 -- What ties a client's window to its life.
-use Rattle.std.proofs.Common.{◌≡◌, ℕ, ◌+◌, ◌%◌, ◌<◌, ◌≤◌, true, List, [], ◌∷◌, length, None, refl, sym, ap, subst, ◌∙◌, arith, inl, inr}
+use Rattle.std.proofs.Common.{◌≡◌, ℕ, ◌+◌, ◌%◌, ◌<◌, ◌≤◌, true, List, [], ◌∷◌}
+use Rattle.std.proofs.Common.{length, None, refl, sym, ap, subst, ◌∙◌, arith, inl, inr}
 use Rattle.std.proofs.lemmas.Bool.{ltb-true, cases_Bool}
 use Rattle.std.proofs.lemmas.List.{length-drop}
 use Rattle.gw_map.specs.Settings.{Setup, station_clocks}
@@ -26,7 +27,8 @@ use Rattle.gw_steps.specs.Steps.{client_answered}
 use Rattle.gw_steps.specs.Said.{ApduMeaning, said_by}
 use Rattle.gw_history.specs.Life.{Taking, Turn, Idle, Takes, PutsOut, Ends}
 use Rattle.gw_history.proofs.Lives.{Becomes, IsFresh, Lives, lives_all}
-use Rattle.gw_laws.specs.Numbers.{NamesCount, SaysNumbers, sent, taken, last_receive_number, KeepsWindow, IsRightReceive, HasNumbers, HasRightNumbers}
+use Rattle.gw_laws.specs.Numbers.{NamesCount, SaysNumbers, sent, taken, last_receive_number}
+use Rattle.gw_laws.specs.Numbers.{KeepsWindow, IsRightReceive, HasNumbers, HasRightNumbers}
 use Rattle.gw_laws.proofs.Offered.{IsOffered, offered_is}
 use Rattle.gw_laws.proofs.Told.{same_beside}
 use Rattle.gw_station.proofs.Opens.{open_s, IsOpen, open_i}

@@ -1,5 +1,6 @@
 -- How many orders there are after each step.
-use Rattle.std.proofs.Common.{◌≡◌, ℕ, suc, ◌+◌, Bool, true, false, cond, List, [], ◌∷◌, map, Option, Some, None, refl, ◌∙◌, arith}
+use Rattle.std.proofs.Common.{◌≡◌, ℕ, suc, ◌+◌, Bool, true, false, cond, List}
+use Rattle.std.proofs.Common.{[], ◌∷◌, map, Option, Some, None, refl, ◌∙◌, arith}
 use Rattle.std.specs.Prelude.{slice_get}
 use Rattle.gw_model.specs.declared.control.Act.{Act}
 use Rattle.gw_model.specs.declared.control.Ended.{Ended}
@@ -12,7 +13,9 @@ use Rattle.iec_apci.specs.declared.apdu.Signal.TheVariants.{StartAct, StartCon, 
 use Rattle.iec_command.specs.declared.command.Command.{Command}
 use Rattle.gw_control.specs.declared.asked.AskedCommand.{AskedCommand}
 use Rattle.gw_control.specs.declared.selection.Selection.{Selection}
-use Rattle.gw_control.specs.Controls.{Controls, act_accepted, answer_at, answer_to_act, confirmed_if, controls_after_at, controls_after_end, controls_ordering, controls_selecting, controls_unselecting, is_deactivation, is_order, is_selectable, standing_at}
+use Rattle.gw_control.specs.Controls.{Controls, act_accepted, answer_at, answer_to_act, confirmed_if}
+use Rattle.gw_control.specs.Controls.{controls_after_at, controls_after_end, controls_ordering, controls_selecting}
+use Rattle.gw_control.specs.Controls.{controls_unselecting, is_deactivation, is_order, is_selectable, standing_at}
 use Rattle.gw_control.specs.Intents.{control_for}
 use Rattle.gw_control.specs.Orders.{places}
 use Rattle.gw_control.specs.Selections.{is_own, is_select}
@@ -21,9 +24,12 @@ use Rattle.gw_station.specs.Client.{Client, is_timed_out}
 use Rattle.gw_station.specs.Frames.{close_of, command_given, command_in, event_by}
 use Rattle.gw_steps.specs.declared.step.Step.{Step}
 use Rattle.gw_steps.specs.declared.step.Step.TheVariants as steps
-use Rattle.gw_steps.specs.Controls.{asked_by, controls_after_closes, controls_after_event, controls_after_taken, controls_with_ended, ended_lost, order_due}
+use Rattle.gw_steps.specs.Controls.{asked_by, controls_after_closes, controls_after_event}
+use Rattle.gw_steps.specs.Controls.{controls_after_taken, controls_with_ended, ended_lost, order_due}
 use Rattle.gw_steps.specs.State.{State}
-use Rattle.gw_steps.specs.Steps.{after, command_of, controls_after_frame, controls_closed, ended_late, is_accepting, is_ordering, latest, needs, one_if, order_ended, parts_after_fragment, parts_after_poll}
+use Rattle.gw_steps.specs.Steps.{after, command_of, controls_after_frame, controls_closed}
+use Rattle.gw_steps.specs.Steps.{ended_late, is_accepting, is_ordering, latest, needs}
+use Rattle.gw_steps.specs.Steps.{one_if, order_ended, parts_after_fragment, parts_after_poll}
 use Rattle.gw_history.proofs.Ended.{all_ended_count, ended_count, losses_count}
 
 -- ---- a command

@@ -1,5 +1,7 @@
 -- What is put out of the answer to an interrogation, and what isn't.
-use Rattle.std.proofs.Common.{◌≡◌, ℕ, ◌+◌, ◌%◌, ◌<◌, ◌≤◌, Bool, true, false, eqb, List, [], ◌∷◌, ◌++◌, length, map, drop, Option, Some, None, refl, sym, ap, subst, ◌∙◌, append_assoc, length-append, arith, inl, inr, take}
+use Rattle.std.proofs.Common.{◌≡◌, ℕ, ◌+◌, ◌%◌, ◌<◌, ◌≤◌, Bool, true, false, eqb, List, []}
+use Rattle.std.proofs.Common.{◌∷◌, ◌++◌, length, map, drop, Option, Some, None, refl, sym, ap}
+use Rattle.std.proofs.Common.{subst, ◌∙◌, append_assoc, length-append, arith, inl, inr, take}
 use Rattle.std.proofs.Math.Bool.{and-false}
 use Rattle.std.specs.Prelude.{◌&&◌, ◌||◌, not, nat_lt, filter, option_map, ◌⊎◌}
 use Rattle.std.specs.List.{AllByRecursion}
@@ -22,7 +24,8 @@ use Rattle.gw_answers.specs.Meaning.{Meant, Tells, Commands, Unread, asdu_of, pa
 use Rattle.gw_answers.proofs.Meant.{refused_with}
 use Rattle.gw_station.specs.Answers.{is_pending as is_asked}
 use Rattle.gw_station.proofs.All.{all-append}
-use Rattle.gw_laws.specs.Interrogations.{Interrogation, is_interrogation, parts_of_command, parts_in, is_termination, is_pending, answer_told, interrogation_telling}
+use Rattle.gw_laws.specs.Interrogations.{Interrogation, is_interrogation, parts_of_command, parts_in}
+use Rattle.gw_laws.specs.Interrogations.{is_termination, is_pending, answer_told, interrogation_telling}
 use Rattle.gw_laws.specs.Fates.{spontaneous_of}
 
 -- ---- kinds of answers and parts

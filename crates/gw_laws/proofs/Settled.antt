@@ -1,11 +1,13 @@
 -- Fates: elements that are settled, put out or dropped, and then those queued.
-use Rattle.std.proofs.Common.{◌≡◌, ℕ, zero, suc, ◌+◌, ◌-◌, ◌≤◌, ◌<◌, Bool, false, List, [], ◌∷◌, ◌++◌, map, length, take, drop, refl, sym, ap, ◌∙◌, append_assoc, arith, inl, inr}
+use Rattle.std.proofs.Common.{◌≡◌, ℕ, zero, suc, ◌+◌, ◌-◌, ◌≤◌, ◌<◌, Bool, false, List, [], ◌∷◌}
+use Rattle.std.proofs.Common.{◌++◌, map, length, take, drop, refl, sym, ap, ◌∙◌, append_assoc, arith, inl, inr}
 use Rattle.std.proofs.lemmas.Bool.{cases_Bool}
 use Rattle.std.proofs.lemmas.List.{append-nil, length-append, length-drop, length-take-le, map-append}
 use Rattle.circular_buffer.specs.Buffer.{keep_last}
 use Rattle.gw_model.specs.declared.observation.Observation.{Observation}
 use Rattle.gw_station.proofs.Queues.{drop-front, kept_on, kept_all}
-use Rattle.gw_laws.specs.Fates.{Fate, Queued, PutOut, Dropped, Element, is_queued, is_put_out, is_dropped, is_kept, dropped_fate, lapse_first, lapse, use_up, items_of, fates_with_news, fates_with_put_out}
+use Rattle.gw_laws.specs.Fates.{Fate, Queued, PutOut, Dropped, Element, is_queued, is_put_out, is_dropped, is_kept}
+use Rattle.gw_laws.specs.Fates.{dropped_fate, lapse_first, lapse, use_up, items_of, fates_with_news, fates_with_put_out}
 
 abbrev pub queued : Observation → Element
 queued x = record { item = x; fate = Queued }

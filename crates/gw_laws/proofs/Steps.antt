@@ -1,5 +1,6 @@
 -- What each step is to the connection of each client.
-use Rattle.std.proofs.Common.{◌≡◌, ℕ, zero, suc, Bool, true, false, cond, map, List, [], ◌∷◌, Option, Some, None, Result, Ok, Err, refl, sym, ap, subst, ◌∙◌, inl, inr}
+use Rattle.std.proofs.Common.{◌≡◌, ℕ, zero, suc, Bool, true, false, cond, map, List, [], ◌∷◌, Option}
+use Rattle.std.proofs.Common.{Some, None, Result, Ok, Err, refl, sym, ap, subst, ◌∙◌, inl, inr}
 use Rattle.std.specs.Prelude.{◌==◌, slice_get, option_map, replicate, IfSome}
 use Rattle.std.proofs.lemmas.Bool.{cases_Bool, cases_eq, ne_eqb, eq-eqb, true≢false}
 use Rattle.gw_model.specs.Places.{change}
@@ -33,13 +34,15 @@ use Rattle.gw_steps.specs.declared.step.Reply.{Reply}
 use Rattle.gw_steps.specs.declared.step.StepFault.{StepFault}
 use Rattle.gw_steps.specs.declared.step.StepFault.TheVariants.{NoClient}
 use Rattle.gw_steps.specs.State.{State, client_limit}
-use Rattle.gw_steps.specs.Steps.{Allowed, after, can_be_counted, client_after_frame, client_answered, client_reply, fault_of, latest, needs, outcome, reply_giving, reply_of_event, reply_to}
+use Rattle.gw_steps.specs.Steps.{Allowed, after, can_be_counted, client_after_frame, client_answered, client_reply}
+use Rattle.gw_steps.specs.Steps.{fault_of, latest, needs, outcome, reply_giving, reply_of_event, reply_to}
 use Rattle.gw_steps.specs.Runs.{Entry, AtEach, state_after}
 use Rattle.gw_steps.proofs.Inversion.{answered, who_is_up, who_is_down}
 use Rattle.gw_steps.proofs.Running.{entry}
 use Rattle.gw_steps.proofs.Saying.{said-content}
 use Rattle.gw_history.specs.Accepted.{moment_after}
-use Rattle.gw_history.specs.Life.{Brought, Turn, Idle, Takes, PutsOut, Ends, is_closed_in, life, lived, nothing_new, said_in, turn_giving, turn_of, turn_taking}
+use Rattle.gw_history.specs.Life.{Brought, Turn, Idle, Takes, PutsOut, Ends, is_closed_in, life}
+use Rattle.gw_history.specs.Life.{lived, nothing_new, said_in, turn_giving, turn_of, turn_taking}
 use Rattle.gw_history.specs.Log.{log_of}
 use Rattle.gw_history.specs.Premises.{client_at}
 use Rattle.gw_history.proofs.Clients.{Goes, SlotGoes, all_go, taken_reply, frame_turn}

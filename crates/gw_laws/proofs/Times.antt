@@ -1,5 +1,6 @@
 -- A tick closes where t1 has passed, and a pump gives what is due first.
-use Rattle.std.proofs.Common.{◌≡◌, ℕ, Bool, true, false, cond, List, [], ◌∷◌, length, Option, Some, None, Result, Ok, Err, refl, sym, ap, subst, ◌∙◌, arith}
+use Rattle.std.proofs.Common.{◌≡◌, ℕ, Bool, true, false, cond, List, [], ◌∷◌, length, Option}
+use Rattle.std.proofs.Common.{Some, None, Result, Ok, Err, refl, sym, ap, subst, ◌∙◌, arith}
 use Rattle.std.specs.Prelude.{◌&&◌, ◌||◌, is_some, nat_le, nat_lt, option_map, slice_get, IfSome}
 use Rattle.std.proofs.lemmas.Bool.{lt-ltb, true≢false}
 use Rattle.gw_model.specs.First.{when, first_of}
@@ -36,7 +37,9 @@ use Rattle.gw_history.proofs.Told.{sound_at}
 use Rattle.gw_laws.specs.Connection.{Connection, OfStanding, connection, is_so, turns}
 use Rattle.gw_laws.specs.Signals.{waiting}
 use Rattle.gw_laws.specs.Line.{line}
-use Rattle.gw_laws.specs.Times.{ClosesLate, Due, GivesDue, Times, TimesBy, ToAcknowledge, ToInform, ToSignal, due, has_passed, is_information_due, is_late, is_receipt_due, is_test_due, tested_at, unacknowledged, unreceipted, was_due}
+use Rattle.gw_laws.specs.Times.{ClosesLate, Due, GivesDue, Times, TimesBy, ToAcknowledge, ToInform}
+use Rattle.gw_laws.specs.Times.{ToSignal, due, has_passed, is_information_due, is_late, is_receipt_due}
+use Rattle.gw_laws.specs.Times.{is_test_due, tested_at, unacknowledged, unreceipted, was_due}
 use Rattle.gw_laws.proofs.Closes.{LinkedBefore}
 use Rattle.gw_laws.proofs.Links.{AllLinked, ClientLinked, SlotLinked}
 use Rattle.gw_laws.proofs.Line.{LineTied, line_is, line_tied}

@@ -1,5 +1,6 @@
 -- What is kept of an interrogation that is watched, by what the history tells of a client, and how each turn keeps it.
-use Rattle.std.proofs.Common.{◌≡◌, ℕ, ◌≤◌, true, false, List, [], ◌∷◌, ◌++◌, map, length, take, drop, Option, Some, None, refl, sym, ap, subst, ◌∙◌, append_assoc, arith, inl, inr}
+use Rattle.std.proofs.Common.{◌≡◌, ℕ, ◌≤◌, true, false, List, [], ◌∷◌, ◌++◌, map, length, take, drop}
+use Rattle.std.proofs.Common.{Option, Some, None, refl, sym, ap, subst, ◌∙◌, append_assoc, arith, inl, inr}
 use Rattle.std.specs.Prelude.{not, option_map}
 use Rattle.std.specs.List.{AllByRecursion, flat_map}
 use Rattle.std.proofs.lemmas.Bool.{cases_Bool}
@@ -30,7 +31,9 @@ use Rattle.gw_laws.specs.Mirror.{observations_in, waiting_in, is_station_interro
 use Rattle.gw_laws.proofs.Settled.{queued, items_of-append}
 use Rattle.gw_laws.proofs.Known.{IsShown, Knows, asked_shown, asked_last, knows_news, knows_inserted}
 use Rattle.gw_laws.proofs.Joined.{joins_behind, none_before, joins, came_front, gone_dropped, gone_front}
-use Rattle.gw_laws.proofs.Waits.{waiting_in-append, waiting_answer, from_answer, waiting_from, waiting_line, from_answer_joined, line_joined, IsPlain, begins_with_part, told_first, apart, part_first, from_part, from_part_of, from_part_next}
+use Rattle.gw_laws.proofs.Waits.{waiting_in-append, waiting_answer, from_answer, waiting_from}
+use Rattle.gw_laws.proofs.Waits.{waiting_line, from_answer_joined, line_joined, IsPlain, begins_with_part}
+use Rattle.gw_laws.proofs.Waits.{told_first, apart, part_first, from_part, from_part_of, from_part_next}
 
 -- ---- what the history tells of a client
 

@@ -2,7 +2,8 @@
 -- first cause that holds, and is taken where none does. Of an I format: no session stands; N(S) or N(R) is wrong; its
 -- ASDU is malformed; there are no places for its answer. Of an S format: N(R) is wrong. Of a U format: it wants a
 -- confirmation, and 32 wait.
-use Rattle.std.specs.Prelude.{◌≡◌, ℕ, ◌+◌, ◌-◌, ◌%◌, Bool, true, false, ◌==◌, ◌&&◌, not, is_none, is_some, nat_le, nat_lt, List, [], ◌∷◌, length, take, Option, Some, None, Result, Ok}
+use Rattle.std.specs.Prelude.{◌≡◌, ℕ, ◌+◌, ◌-◌, ◌%◌, Bool, true, false, ◌==◌, ◌&&◌, not, is_none, is_some}
+use Rattle.std.specs.Prelude.{nat_le, nat_lt, List, [], ◌∷◌, length, take, Option, Some, None, Result, Ok}
 use Rattle.gw_model.specs.First.{when, first_of}
 use Rattle.gw_map.specs.Settings.{Setup}
 use Rattle.iec_apci.specs.Apdu.{confirmation_of}

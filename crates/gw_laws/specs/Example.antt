@@ -1,5 +1,6 @@
 -- What the worked runs tell of a client.
-use Rattle.std.specs.Prelude.{ℕ, ◌-◌, pos, Bool, true, false, List, [], ◌∷◌, ◌++◌, drop, take, unwrap_or, Option, Some, None}
+use Rattle.std.specs.Prelude.{ℕ, ◌-◌, pos, Bool, true, false, List, [], ◌∷◌}
+use Rattle.std.specs.Prelude.{◌++◌, drop, take, unwrap_or, Option, Some, None}
 use Rattle.gw_model.specs.declared.observation.Value.TheVariants.{Scaled, Single}
 use Rattle.gw_model.specs.declared.observation.Observation.{Observation}
 use Rattle.gw_model.specs.Clocks.{utc}

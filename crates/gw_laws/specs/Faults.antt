@@ -3,7 +3,8 @@
 -- counts would reach 2^64, of the steps without a fault, the news and losses in the log, the sessions, the orders.
 -- Where none of these holds the step is made; only the act of an interrogation that is accepted may be answered with
 -- Memory. Which commands are orders is what the controls told, as in a client's life.
-use Rattle.std.specs.Prelude.{◌≡◌, ℕ, ◌+◌, ◌^◌, Bool, true, false, not, ◌&&◌, ◌||◌, is_none, is_some, nat_le, IsTrue, List, [], ◌∷◌, ◌++◌, length, Option, Some, None, Result, Ok, Err}
+use Rattle.std.specs.Prelude.{◌≡◌, ℕ, ◌+◌, ◌^◌, Bool, true, false, not, ◌&&◌, ◌||◌, is_none, is_some}
+use Rattle.std.specs.Prelude.{nat_le, IsTrue, List, [], ◌∷◌, ◌++◌, length, Option, Some, None, Result, Ok, Err}
 use Rattle.gw_model.specs.First.{when, first_of}
 use Rattle.gw_map.specs.Settings.{Setup}
 use Rattle.iec_apci.specs.declared.apdu.Apdu.{Apdu}

@@ -1,6 +1,7 @@
 -- Frames (IEC 60870-5-104, 5.1 to 5.3): an I or S format is taken where it is right, and closes the connection where it
 -- isn't.
-use Rattle.std.specs.Prelude.{◌≡◌, ◌≢◌, ℕ, ◌+◌, ◌-◌, ◌*◌, ◌%◌, ◌≤◌, true, is_some, List, ◌∷◌, [], length, Option, Some, None, Result, Ok}
+use Rattle.std.specs.Prelude.{◌≡◌, ◌≢◌, ℕ, ◌+◌, ◌-◌, ◌*◌, ◌%◌, ◌≤◌, true}
+use Rattle.std.specs.Prelude.{is_some, List, ◌∷◌, [], length, Option, Some, None, Result, Ok}
 use Rattle.gw_map.specs.Settings.{Setup}
 use Rattle.iec_apci.specs.declared.apdu.Apdu.{Apdu}
 use Rattle.iec_apci.specs.declared.apdu.Apdu.TheVariants.{I, S, U}

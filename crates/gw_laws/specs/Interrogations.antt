@@ -2,7 +2,8 @@
 -- is the front of it, and all of it once its last termination is out: for each common address that it asks the
 -- confirmation, of its rows those that show totals (counter interrogation) or all others (station interrogation), each as
 -- the picture showed it at the act, in the order of the rows, and the termination.
-use Rattle.std.specs.Prelude.{◌≡◌, ℕ, ◌==◌, Bool, true, false, not, nat_lt, ◌&&◌, ◌||◌, List, [], ◌∷◌, ◌++◌, length, map, filter, zip, flat_map, Option, Some, None, option_map, IfSome, if◌then◌else◌}
+use Rattle.std.specs.Prelude.{◌≡◌, ℕ, ◌==◌, Bool, true, false, not, nat_lt, ◌&&◌, ◌||◌, List, [], ◌∷◌, ◌++◌}
+use Rattle.std.specs.Prelude.{length, map, filter, zip, flat_map, Option, Some, None, option_map, IfSome, if◌then◌else◌}
 use Rattle.gw_model.specs.declared.observation.Observation.{Observation}
 use Rattle.gw_entries.specs.declared.row.Row.{Row}
 use Rattle.gw_entries.specs.declared.row.Show.{Show}

@@ -1,7 +1,8 @@
 -- Line: each I format that is put out to a client is the front of what waits for it: the answers to its ASDUs and what
 -- became of its orders, the news that came before the interrogation that is pending, the rest of its answer, and later
 -- news. An answer goes alone; of news, and of the rows of an interrogation, as many go together as one ASDU carries.
-use Rattle.std.specs.Prelude.{◌≡◌, ℕ, Bool, true, false, List, [], ◌∷◌, ◌++◌, length, map, take, drop, Option, Some, None, if◌then◌else◌}
+use Rattle.std.specs.Prelude.{◌≡◌, ℕ, Bool, true, false, List, [], ◌∷◌, ◌++◌, length}
+use Rattle.std.specs.Prelude.{map, take, drop, Option, Some, None, if◌then◌else◌}
 use Rattle.std.specs.Option.{option_to_list}
 use Rattle.gw_model.specs.Clocks.{Clocks}
 use Rattle.gw_map.specs.Settings.{Setup, station_clocks}

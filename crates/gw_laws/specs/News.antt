@@ -2,7 +2,8 @@
 -- were put out with cause 3 (spontaneous), followed by those queued, are the news since its STARTDT, in order, less
 -- those dropped. An I format is put out in a session alone, and carries what a station may say: under a common address
 -- that clients may use, but for what comes back as unknown.
-use Rattle.std.specs.Prelude.{◌≡◌, ◌⊎◌, ℕ, ◌≤◌, ◌==◌, true, ◌||◌, IsTrue, is_some, List, ◌∷◌, ◌++◌, length, IfSome}
+use Rattle.std.specs.Prelude.{◌≡◌, ◌⊎◌, ℕ, ◌≤◌, ◌==◌, true, ◌||◌}
+use Rattle.std.specs.Prelude.{IsTrue, is_some, List, ◌∷◌, ◌++◌, length, IfSome}
 use Rattle.std.specs.List.{AllByRecursion}
 use Rattle.gw_model.specs.Fit.{IsFit}
 use Rattle.gw_entries.specs.Setup.{StationSetup}

@@ -4,7 +4,8 @@
 -- came for t3 or longer and none is unconfirmed; an I format, where a session stands, something is in line and fewer
 -- than k are not acknowledged; an S format, where w or more I formats that came are not acknowledged, or the oldest
 -- since t2 or longer.
-use Rattle.std.specs.Prelude.{◌≡◌, ℕ, ◌+◌, Bool, false, ◌&&◌, ◌||◌, is_none, is_some, nat_le, nat_lt, List, [], ◌∷◌, ◌++◌, drop, length, map, slice_get, Option, Some, None, option_map, Result, Ok}
+use Rattle.std.specs.Prelude.{◌≡◌, ℕ, ◌+◌, Bool, false, ◌&&◌, ◌||◌, is_none, is_some, nat_le, nat_lt, List, []}
+use Rattle.std.specs.Prelude.{◌∷◌, ◌++◌, drop, length, map, slice_get, Option, Some, None, option_map, Result, Ok}
 use Rattle.gw_model.specs.First.{when, first_of}
 use Rattle.gw_entries.specs.Setup.{StationSetup}
 use Rattle.gw_map.specs.Settings.{Setup, station_clocks}

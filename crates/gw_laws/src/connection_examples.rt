@@ -12,8 +12,11 @@ ghost use Rattle.gw_laws.specs.Connection.{connection, is_so, turns};
 ghost use Rattle.gw_laws.specs.Closes.{acknowledged};
 ghost use Rattle.gw_laws.specs.Faults.{count, is_spent_of, news_added, one_step, orders_added, sessions_added, wants_memory};
 ghost use Rattle.gw_laws.specs.Signals.{given, waiting, wanted};
-ghost use Rattle.gw_laws.specs.Times.{ToAcknowledge, ToInform, ToSignal, due, heard_at, is_late, is_receipt_due, tested_at, unacknowledged, unreceipted};
-ghost use Rattle.gw_laws.specs.ConnectionExample.{closes_then, comes, connected, fault_then, flooded, full, passed, pump, pumps, reached, read_twice, refused, set_to_seven, setup, started, tested, told_twice};
+ghost use Rattle.gw_laws.specs.Times.{ToAcknowledge, ToInform, ToSignal, due, heard_at, is_late};
+ghost use Rattle.gw_laws.specs.Times.{is_receipt_due, tested_at, unacknowledged, unreceipted};
+ghost use Rattle.gw_laws.specs.ConnectionExample.{closes_then, comes, connected, fault_then, flooded};
+ghost use Rattle.gw_laws.specs.ConnectionExample.{full, passed, pump, pumps, reached, read_twice, refused};
+ghost use Rattle.gw_laws.specs.ConnectionExample.{set_to_seven, setup, started, tested, told_twice};
 
 /// Nothing comes from a client, before STARTDT.
 #[tactic(auto, unfolding(iec_apci::specs::Stream::reading, iec_apci::specs::Stream::answer_at_front, iec_apci::specs::Stream::content_of))]

@@ -18,7 +18,9 @@ ghost use Rattle.gw_laws.specs.Interrogations.{interrogation, is_pending, rows_d
 ghost use Rattle.gw_laws.specs.Frames.{held};
 ghost use Rattle.gw_laws.specs.Line.{line, owed};
 ghost use Rattle.gw_laws.specs.Mirror.{asked_in, known_of, last_value, told};
-ghost use Rattle.gw_laws.specs.Example.{all_asked, analog_at_first, analog_read, answered_all, answered_with, command, ended, executed, known_after, ordered, row_under, said_of, session_after, told_after};
+ghost use Rattle.gw_laws.specs.Example.{all_asked, analog_at_first, analog_read, answered_all};
+ghost use Rattle.gw_laws.specs.Example.{answered_with, command, ended, executed, known_after};
+ghost use Rattle.gw_laws.specs.Example.{ordered, row_under, said_of, session_after, told_after};
 
 /// News wait, a client interrogates the station, and other news come.
 #[tactic(auto, unfolding(iec_command::specs::Commands::command_of, iec_apci::specs::Stream::reading, iec_apci::specs::Stream::answer_at_front, iec_apci::specs::Stream::content_of, iec_asdu::specs::Asdu::asdu_meaning, iec_asdu::specs::Asdu::objects_of, iec_asdu::specs::Asdu::objects_apart, iec_asdu::specs::Spelling::list_spelling, iec_asdu::specs::Packing::packed_spelling, iec_asdu::specs::Packing::taken_of, iec_asdu::specs::Packing::is_in_sequence, iec_asdu::specs::Packing::in_sequence_count, iec_asdu::specs::Packing::apart_count, iec_asdu::specs::Packing::alike_count, iec_asdu::specs::Packing::consecutive_count))]

@@ -1,5 +1,6 @@
 -- The point map: rows by their points, in the order of the file.
-use Rattle.std.proofs.Common.{◌≡◌, ℕ, List, map, position, option_map, slice_get, Option, None, Some, is_some, false, refl, ap, sym, ◌∙◌}
+use Rattle.std.proofs.Common.{◌≡◌, ℕ, List, map, position, option_map, slice_get}
+use Rattle.std.proofs.Common.{Option, None, Some, is_some, false, refl, ap, sym, ◌∙◌}
 use Rattle.std.specs.List.{list_any, position_from}
 use Rattle.std.specs.Map.{lookup, keys_of, values_of}
 use Rattle.std.proofs.lemmas.Iterator.Adapters.{position_from-zero}

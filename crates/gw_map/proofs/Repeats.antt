@@ -1,5 +1,7 @@
 -- Elements that stand twice.
-use Rattle.std.proofs.Common.{◌≡◌, ℕ, ◌+◌, ◌-◌, nat_lt, codes, ◌<◌, ◌≤◌, List, [], ◌∷◌, ◌++◌, length, map, drop, take, get_or, Some, Bool, true, false, ◌&&◌, ◌==◌, add-zero, if◌then◌else◌, refl, ◌∙◌, inl, inr, arith, append_assoc}
+use Rattle.std.proofs.Common.{◌≡◌, ℕ, ◌+◌, ◌-◌, nat_lt, codes, ◌<◌, ◌≤◌, List, [], ◌∷◌}
+use Rattle.std.proofs.Common.{◌++◌, length, map, drop, take, get_or, Some, Bool, true, false, ◌&&◌}
+use Rattle.std.proofs.Common.{◌==◌, add-zero, if◌then◌else◌, refl, ◌∙◌, inl, inr, arith, append_assoc}
 use Rattle.std.specs.List.{list_any}
 use Rattle.std.proofs.lemmas.Bool.{cases_Bool}
 use Rattle.std.proofs.lemmas.List.{drop_all, drop_more, take_more, map-append, append-nil}

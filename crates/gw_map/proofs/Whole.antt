@@ -1,5 +1,6 @@
 -- The settings, put together.
-use Rattle.std.proofs.Common.{◌≡◌, ℕ, ◌≤◌, arith, codes, min, List, [], ◌∷◌, length, map, Result, Ok, Err, refl, ap, sym, ◌∙◌}
+use Rattle.std.proofs.Common.{◌≡◌, ℕ, ◌≤◌, arith, codes, min, List, [], ◌∷◌}
+use Rattle.std.proofs.Common.{length, map, Result, Ok, Err, refl, ap, sym, ◌∙◌}
 use Rattle.std.specs.Result.{result_map_both}
 use Rattle.std.proofs.lemmas.List.{length-map, map-id}
 use Rattle.std.proofs.lemmas.Simd.{map-map}

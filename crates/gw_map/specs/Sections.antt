@@ -1,5 +1,6 @@
 -- What is wrong with a settings file: all complaints, in the order in which they are made. The first one is told.
-use Rattle.std.specs.Prelude.{ℕ, ◌+◌, ◌-◌, Bool, nat_lt, nat_le, List, [], ◌∷◌, ◌++◌, length, map, codes, Option, Some, None, unwrap_or, option_map, if◌then◌else◌}
+use Rattle.std.specs.Prelude.{ℕ, ◌+◌, ◌-◌, Bool, nat_lt, nat_le, List, [], ◌∷◌, ◌++◌, length, map}
+use Rattle.std.specs.Prelude.{codes, Option, Some, None, unwrap_or, option_map, if◌then◌else◌}
 use Rattle.std.specs.List.{list_any}
 use Rattle.toml.specs.Data.{Data, array, table, Items, no_items, item, Members, no_members, get_member}
 use Rattle.gw_model.specs.declared.point.PointKey.{PointKey}
@@ -8,7 +9,8 @@ use Rattle.gw_model.specs.Keys.{same_key, same_object}
 use Rattle.gw_entries.specs.declared.fault.Fault.TheVariants.{Missing, WrongType, OutOfRange, UnknownKey, DoubleSource, DoubleAddress}
 use Rattle.gw_entries.specs.declared.fault.Section.{Section}
 use Rattle.gw_entries.specs.declared.fault.Section.TheVariants.{Top, Station, Outstation, Point, Control}
-use Rattle.gw_entries.specs.Complaints.{Wrong, Complaint, complaint, placed, wrong_at, unknown_keys, table_wrongs, no_mismatches, point_mismatches, control_mismatches}
+use Rattle.gw_entries.specs.Complaints.{Wrong, Complaint, complaint, placed, wrong_at, unknown_keys}
+use Rattle.gw_entries.specs.Complaints.{table_wrongs, no_mismatches, point_mismatches, control_mismatches}
 use Rattle.gw_entries.specs.Setup.{StationSetup, OutstationSetup, common_at}
 use Rattle.gw_entries.specs.Tables.{KeyRule, top_keys, station_keys, outstation_keys, point_keys, control_keys, outstation_limit, row_limit}
 use Rattle.gw_entries.specs.Values.{number_in, station_of, outstation_of, source_of}

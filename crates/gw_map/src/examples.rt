@@ -8,7 +8,8 @@ ghost use Rattle.gw_entries.specs.declared.row.Show.TheVariants as show;
 ghost use Rattle.gw_entries.specs.Complaints.{complaint};
 ghost use Rattle.gw_map.specs.Sections.{complaints_of, list_complaints};
 ghost use Rattle.gw_entries.specs.Example.{station as usual_station, outstation as usual_outstation};
-ghost use Rattle.gw_map.specs.Example.{is, whole, text, station, outstation, point, binary, analog, counter, switch, setpoint, settings, several, alike, own_outstation, usual, with_common};
+ghost use Rattle.gw_map.specs.Example.{is, whole, text, station, outstation, point, binary, analog, counter, switch};
+ghost use Rattle.gw_map.specs.Example.{setpoint, settings, several, alike, own_outstation, usual, with_common};
 ghost use Rattle.gw_map.specs.Meaning.{setup_of, reading_of};
 ghost use Rattle.gw_map.specs.Settings.{known_in, is_among};
 ghost use Rattle.gw_entries.specs.Faults.{refused};
@@ -16,7 +17,8 @@ ghost use Rattle.gw_entries.specs.Setup.{single, setpoint as by_setpoint};
 ghost use Rattle.gw_entries.specs.Values.{row_of};
 ghost use Rattle.gw_entries.specs.declared.control.Mode.TheVariants.{Direct, Sbo};
 ghost use Rattle.gw_entries.specs.declared.control.Rest.TheVariants.{Latch};
-ghost use Rattle.gw_entries.specs.declared.fault.Fault.TheVariants.{Missing, WrongType, OutOfRange, UnknownKey, DoubleSource, DoubleAddress, KindMismatch};
+ghost use Rattle.gw_entries.specs.declared.fault.Fault.TheVariants.{Missing, WrongType, OutOfRange, UnknownKey};
+ghost use Rattle.gw_entries.specs.declared.fault.Fault.TheVariants.{DoubleSource, DoubleAddress, KindMismatch};
 ghost use Rattle.gw_entries.specs.declared.fault.Section.TheVariants.{Top, Station, Outstation, Point, Control};
 
 /// What the usual settings mean.

@@ -10,7 +10,8 @@ ghost use Rattle.gw_map.specs.Sections.{complaints_of};
 ghost use Rattle.gw_entries.specs.Faults.{refusal_of, is_no_memory};
 ghost use Rattle.gw_map.specs.Meaning.{setup_of, reading_of};
 ghost use Rattle.gw_entries.specs.Ranges.{IsStation, IsWithin};
-ghost use Rattle.gw_map.specs.Settings.{setup_fields, station_clocks, known_addresses, is_known, row_from, row_at_from, control_at_from, HasSingleSources, HasSingleAddresses};
+ghost use Rattle.gw_map.specs.Settings.{setup_fields, station_clocks, known_addresses, is_known, row_from};
+ghost use Rattle.gw_map.specs.Settings.{row_at_from, control_at_from, HasSingleSources, HasSingleAddresses};
 
 use crate::indexes::Indexes;
 use crate::sections::Sections;

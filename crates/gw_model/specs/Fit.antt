@@ -1,5 +1,6 @@
 -- Which observations an ASDU can carry (IEC 60870-5-101, 7.2.5, 7.2.6).
-use Rattle.std.specs.Prelude.{ℕ, pos, ◌≤ℤ◌, ◌<ℤ◌, ◌^◌, ◌<◌, ◌≤◌, Bool, not, ◌&&◌, nat_lt, FitsSigned, IsTrue}
+use Rattle.std.specs.Prelude.{ℕ, pos, ◌≤ℤ◌, ◌<ℤ◌, ◌^◌, ◌<◌, ◌≤◌}
+use Rattle.std.specs.Prelude.{Bool, not, ◌&&◌, nat_lt, FitsSigned, IsTrue}
 use Rattle.std.specs.Int.{w16}
 use Rattle.gw_model.specs.declared.point.Stamp.{Stamp}
 use Rattle.gw_model.specs.declared.point.Stamp.TheVariants.{Untimed, At, Doubtful}

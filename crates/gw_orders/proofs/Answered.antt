@@ -1,5 +1,7 @@
 -- What is answered to a command is what is due by the history.
-use Rattle.std.proofs.Common.{◌≡◌, ℕ, zero, suc, ◌+◌, Bool, true, false, cond, not, ◌&&◌, ◌||◌, nat_lt, List, [], ◌∷◌, length, Option, Some, None, option_map, is_none, is_some, Result, Ok, Err, refl, sym, ap, subst, ◌∙◌, arith}
+use Rattle.std.proofs.Common.{◌≡◌, ℕ, zero, suc, ◌+◌, Bool, true, false, cond, not, ◌&&◌, ◌||◌}
+use Rattle.std.proofs.Common.{nat_lt, List, [], ◌∷◌, length, Option, Some, None, option_map}
+use Rattle.std.proofs.Common.{is_none, is_some, Result, Ok, Err, refl, sym, ap, subst, ◌∙◌, arith}
 use Rattle.std.specs.Prelude.{slice_get, slice_index}
 use Rattle.gw_model.specs.First.{first_of, when}
 use Rattle.gw_model.specs.declared.control.Act.{Act}
@@ -14,7 +16,9 @@ use Rattle.gw_control.specs.declared.asked.AskedCommand.{AskedCommand}
 use Rattle.gw_control.specs.declared.selection.Selection.{Selection}
 use Rattle.gw_control.specs.declared.refusal.Refusal.{Refusal}
 use Rattle.gw_control.specs.declared.refusal.Refusal.TheVariants.{NoPlace, OutstationDown, SelectedByAnother}
-use Rattle.gw_control.specs.Controls.{act_accepted, act_by, act_unless, answer_at, answer_for, answer_to_act, confirmed_if, element_refusal, is_full_at, is_selectable, selection_refusal, standing_at}
+use Rattle.gw_control.specs.Controls.{act_accepted, act_by, act_unless, answer_at, answer_for}
+use Rattle.gw_control.specs.Controls.{answer_to_act, confirmed_if, element_refusal, is_full_at}
+use Rattle.gw_control.specs.Controls.{is_selectable, selection_refusal, standing_at}
 use Rattle.gw_control.specs.Intents.{control_for}
 use Rattle.gw_control.specs.Orders.{Outgoing}
 use Rattle.gw_control.specs.Selections.{is_own, is_select, is_selected, is_taken}
@@ -31,7 +35,8 @@ use Rattle.gw_steps.specs.declared.step.StepFault.TheVariants.{NoClient}
 use Rattle.gw_steps.specs.Controls.{asked_by, is_control_up, is_up_at, said_by}
 use Rattle.gw_steps.specs.Sound.{IsSoundState}
 use Rattle.gw_steps.specs.State.{State, later}
-use Rattle.gw_steps.specs.Steps.{Allowed, can_be_counted, client_reply, command_of, fault_of, latest, needs, outcome, reply_of_event, reply_to}
+use Rattle.gw_steps.specs.Steps.{Allowed, can_be_counted, client_reply, command_of}
+use Rattle.gw_steps.specs.Steps.{fault_of, latest, needs, outcome, reply_of_event, reply_to}
 use Rattle.gw_steps.specs.Runs.{Entry, state_after}
 use Rattle.gw_steps.proofs.Inversion.{answered, who_is_up}
 use Rattle.gw_steps.proofs.Running.{entry}
@@ -39,8 +44,10 @@ use Rattle.gw_history.specs.Accepted.{moment_after}
 use Rattle.gw_history.specs.Up.{is_outstation_up}
 use Rattle.gw_orders.specs.Executes.{execute_answered, execute_by as execute_made}
 use Rattle.gw_orders.proofs.Held.{waiting_at}
-use Rattle.gw_orders.specs.Commands.{AnswersBy, AnswersDue, Orders, SaysDue, confirmed_if as said_if, execute_by, execute_for, is_accepted, orders, said_due, waiting}
-use Rattle.gw_orders.specs.Selections.{Selected, if_fresh, is_deactivation, is_free_for, is_selected_by, is_selected_for, may_select, moment_at, selected, standing}
+use Rattle.gw_orders.specs.Commands.{AnswersBy, AnswersDue, Orders, SaysDue, confirmed_if as said_if}
+use Rattle.gw_orders.specs.Commands.{execute_by, execute_for, is_accepted, orders, said_due, waiting}
+use Rattle.gw_orders.specs.Selections.{Selected, if_fresh, is_deactivation, is_free_for, is_selected_by}
+use Rattle.gw_orders.specs.Selections.{is_selected_for, may_select, moment_at, selected, standing}
 use Rattle.gw_orders.proofs.Carried.{is_for_control, takes_carried}
 use Rattle.gw_orders.proofs.Words.{permitted_is}
 use Rattle.gw_orders.proofs.Opened.{told_of}

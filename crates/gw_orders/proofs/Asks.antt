@@ -1,5 +1,6 @@
 -- A request of an order is given: it asks what the order does, and what it may.
-use Rattle.std.proofs.Common.{◌≡◌, ℕ, ◌≤◌, ◌<◌, Bool, true, false, cond, List, [], ◌∷◌, ◌++◌, map, Option, Some, option_map, refl, sym, ap, subst, ◌∙◌, arith}
+use Rattle.std.proofs.Common.{◌≡◌, ℕ, ◌≤◌, ◌<◌, Bool, true, false, cond, List, [], ◌∷◌}
+use Rattle.std.proofs.Common.{◌++◌, map, Option, Some, option_map, refl, sym, ap, subst, ◌∙◌, arith}
 use Rattle.std.specs.Prelude.{◌==◌, if◌then◌else◌}
 use Rattle.std.specs.List.{AllByRecursion}
 use Rattle.std.specs.Option.{option_to_list}
@@ -19,7 +20,8 @@ use Rattle.gw_orders.specs.Marks.{Mark, Asked}
 use Rattle.gw_orders.specs.Bonds.{IsBonded, IsSelected, MayAsk, MayFollow, operation_in}
 use Rattle.gw_control.specs.Orders.{Outgoing, Rise}
 use Rattle.gw_orders.proofs.Held.{held_at}
-use Rattle.gw_orders.proofs.Story.{Alike, AskedBy, IsOrder, Keeps, OfOrder, Story, Waits, WasSelected, apart, asking, mark_elsewhere, waits_kept, with_mark}
+use Rattle.gw_orders.proofs.Story.{Alike, AskedBy, IsOrder, Keeps, OfOrder, Story, Waits}
+use Rattle.gw_orders.proofs.Story.{WasSelected, apart, asking, mark_elsewhere, waits_kept, with_mark}
 
 -- ---- what the request says
 

@@ -1,5 +1,6 @@
 -- A poll of an outstation gives the request of an order, or one that operates nothing.
-use Rattle.std.proofs.Common.{◌≡◌, ℕ, ◌+◌, ◌%◌, ◌≤◌, ◌<◌, Bool, true, false, cond, List, [], ◌∷◌, ◌++◌, Option, Some, None, option_map, refl, sym, ap, subst, ◌∙◌, arith}
+use Rattle.std.proofs.Common.{◌≡◌, ℕ, ◌+◌, ◌%◌, ◌≤◌, ◌<◌, Bool, true, false, cond, List, []}
+use Rattle.std.proofs.Common.{◌∷◌, ◌++◌, Option, Some, None, option_map, refl, sym, ap, subst, ◌∙◌, arith}
 use Rattle.std.specs.Prelude.{◌==◌, is_some, slice_get}
 use Rattle.std.specs.List.{AllByRecursion}
 use Rattle.std.specs.Option.{option_to_list}
@@ -16,8 +17,11 @@ use Rattle.dnp_master.specs.declared.due.DueTasks.{DueTasks}
 use Rattle.dnp_master.specs.declared.exchange.Exchange.{Exchange}
 use Rattle.dnp_master.specs.declared.exchange.Exchange.TheVariants.{Idle, Waiting, Selected}
 use Rattle.dnp_master.specs.declared.task.Task.{Task}
-use Rattle.dnp_master.specs.declared.task.Task.TheVariants.{ClearRestart, WriteTime, RecordTime, Disable, Integrity, Enable, EventPoll, Command}
-use Rattle.dnp_master.specs.Master.{Master, first_task, if_due, is_event_poll_due, is_integrity_due, is_ready, master_after_given, master_after_order, master_asking, order_of, request_ordered, task_given, task_request, tasks_due, time_due}
+use Rattle.dnp_master.specs.declared.task.Task.TheVariants.{ClearRestart, WriteTime, RecordTime, Disable}
+use Rattle.dnp_master.specs.declared.task.Task.TheVariants.{Integrity, Enable, EventPoll, Command}
+use Rattle.dnp_master.specs.Master.{Master, first_task, if_due, is_event_poll_due, is_integrity_due}
+use Rattle.dnp_master.specs.Master.{is_ready, master_after_given, master_after_order, master_asking}
+use Rattle.dnp_master.specs.Master.{order_of, request_ordered, task_given, task_request, tasks_due, time_due}
 use Rattle.gw_control.specs.declared.accepted.Accepted.{Accepted}
 use Rattle.gw_control.specs.declared.accepted.UnderWay.{UnderWay}
 use Rattle.gw_control.specs.Controls.{order_at}
@@ -30,8 +34,11 @@ use Rattle.gw_orders.specs.Executes.{Execute, numbered}
 use Rattle.gw_orders.specs.Marks.{Mark, Asked, is_number, names}
 use Rattle.gw_orders.specs.Bonds.{AsksAsOrdered, IsBound, IsBoundTo, is_control_request}
 use Rattle.gw_orders.proofs.Held.{held_at, held_way, under_way_at, waiting_at}
-use Rattle.gw_orders.proofs.Story.{AskedBy, ForTask, GoesOn, Holds, IsOf, IsOrder, OfOrder, Story, Waits, alike_self, asking, mark_here, with_mark}
-use Rattle.gw_orders.proofs.Asks.{Above, all_above, asked_first, first_of_order, given_apart, last_after, last_here, last_there, marked_apart, marked_bonded, marked_kept, may_first, may_operate, reads_intent, story_marked, waits_behind}
+use Rattle.gw_orders.proofs.Story.{AskedBy, ForTask, GoesOn, Holds, IsOf, IsOrder, OfOrder}
+use Rattle.gw_orders.proofs.Story.{Story, Waits, alike_self, asking, mark_here, with_mark}
+use Rattle.gw_orders.proofs.Asks.{Above, all_above, asked_first, first_of_order, given_apart, last_after}
+use Rattle.gw_orders.proofs.Asks.{last_here, last_there, marked_apart, marked_bonded, marked_kept}
+use Rattle.gw_orders.proofs.Asks.{may_first, may_operate, reads_intent, story_marked, waits_behind}
 use Rattle.gw_orders.proofs.Moves.{InOrderAt, Moves, waits_same}
 
 -- ---- the story

@@ -1,5 +1,6 @@
 -- Each step keeps what ties the state to the history, and the request that it gives is bound.
-use Rattle.std.proofs.Common.{◌≡◌, ℕ, ◌≤◌, Bool, true, false, List, [], ◌∷◌, ◌++◌, length, map, Option, Some, None, Ok, option_map, refl, sym, ap, subst, ◌∙◌, arith, inl, inr}
+use Rattle.std.proofs.Common.{◌≡◌, ℕ, ◌≤◌, Bool, true, false, List, [], ◌∷◌, ◌++◌, length, map, Option}
+use Rattle.std.proofs.Common.{Some, None, Ok, option_map, refl, sym, ap, subst, ◌∙◌, arith, inl, inr}
 use Rattle.std.specs.Prelude.{slice_get}
 use Rattle.std.specs.List.{AllByRecursion}
 use Rattle.std.specs.Option.{option_to_list}
@@ -27,9 +28,12 @@ use Rattle.gw_steps.specs.declared.step.Step.TheVariants as steps
 use Rattle.gw_steps.specs.declared.step.Reply.{Reply}
 use Rattle.gw_steps.specs.declared.step.Reply.TheVariants as replies
 use Rattle.gw_steps.specs.declared.step.StepFault.TheVariants.{NoOutstation}
-use Rattle.gw_steps.specs.Controls.{outcome_ended, outcomes_lost, controls_with_ended, ended_by_fragment, ended_in, ended_lost, order_due, order_for}
+use Rattle.gw_steps.specs.Controls.{outcome_ended, outcomes_lost, controls_with_ended}
+use Rattle.gw_steps.specs.Controls.{ended_by_fragment, ended_in, ended_lost, order_due, order_for}
 use Rattle.gw_steps.specs.State.{State}
-use Rattle.gw_steps.specs.Steps.{outcomes_of, outcomes_of_loss, outcomes_of_tick, outcome, needs, can_be_counted, controls_closed, reply_to, fault_of, is_accepting, order_ended, outstation_reply, parts_after_poll, reply_asking, request_polled, latest, after}
+use Rattle.gw_steps.specs.Steps.{outcomes_of, outcomes_of_loss, outcomes_of_tick, outcome, needs, can_be_counted}
+use Rattle.gw_steps.specs.Steps.{controls_closed, reply_to, fault_of, is_accepting, order_ended}
+use Rattle.gw_steps.specs.Steps.{outstation_reply, parts_after_poll, reply_asking, request_polled, latest, after}
 use Rattle.gw_steps.specs.Runs.{Entry, state_after}
 use Rattle.gw_steps.proofs.Inversion.{answered, who_is_up, who_is_down}
 use Rattle.gw_steps.proofs.Running.{entry}
@@ -42,9 +46,11 @@ use Rattle.gw_orders.proofs.Held.{held, held_at, held_changed, held_taking, held
 use Rattle.gw_orders.proofs.Story.{Holds, Waits, Story, Tied, alike_self, story, GoesOn}
 use Rattle.gw_orders.proofs.Moves.{AlikeBut, Moves, in_order_at, moved}
 use Rattle.gw_orders.proofs.BondPolls.{Polled, outgoing_polled, polled, story_polled, with_outstation}
-use Rattle.gw_orders.proofs.Ends.{ended_here, ended_waiting, controls_lost, idle_holds, lost_count, lost_holds, lost_there, tied_closes, tied_end, tied_late}
+use Rattle.gw_orders.proofs.Ends.{ended_here, ended_waiting, controls_lost, idle_holds, lost_count}
+use Rattle.gw_orders.proofs.Ends.{lost_holds, lost_there, tied_closes, tied_end, tied_late}
 use Rattle.gw_orders.proofs.Tells.{TellsAt, failure_tells}
-use Rattle.gw_orders.proofs.BondsTold.{Ending, Leads, ToldTied, closes_fewer, end_fewer, ending_both, late_end, order_ends, told_ending, told_fewer, told_kept, waiting_fail}
+use Rattle.gw_orders.proofs.BondsTold.{Ending, Leads, ToldTied, closes_fewer, end_fewer, ending_both}
+use Rattle.gw_orders.proofs.BondsTold.{late_end, order_ends, told_ending, told_fewer, told_kept, waiting_fail}
 use Rattle.gw_orders.proofs.Verdicts.{Answers, judged, story_ended}
 use Rattle.gw_orders.proofs.Orders.{frame_tied}
 

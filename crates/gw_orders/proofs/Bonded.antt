@@ -1,5 +1,7 @@
 -- Every run binds its requests to accepted executes.
-use Rattle.std.proofs.Common.{◌≡◌, ℕ, zero, suc, ◌+◌, ◌≤◌, Bool, true, false, List, [], ◌∷◌, ◌++◌, length, replicate, Option, Some, None, Result, Ok, Err, option_map, refl, sym, ap, subst, ◌∙◌, arith}
+use Rattle.std.proofs.Common.{◌≡◌, ℕ, zero, suc, ◌+◌, ◌≤◌, Bool, true, false, List, []}
+use Rattle.std.proofs.Common.{◌∷◌, ◌++◌, length, replicate, Option, Some, None, Result}
+use Rattle.std.proofs.Common.{Ok, Err, option_map, refl, sym, ap, subst, ◌∙◌, arith}
 use Rattle.std.specs.Prelude.{slice_get}
 use Rattle.std.specs.List.{AllByRecursion}
 use Rattle.std.specs.Option.{option_to_list}
@@ -29,7 +31,9 @@ use Rattle.gw_steps.proofs.Running.{entry, last_place, at_each}
 use Rattle.gw_orders.specs.Executes.{Execute, execute_answered, execute_by, execute_in, execute_of, executes, numbered}
 use Rattle.gw_orders.specs.Marks.{Mark, Asked, Answered, given_in, marks}
 use Rattle.gw_orders.specs.ToldOnce.{TellsOnce, told}
-use Rattle.gw_orders.specs.Bonds.{Bonds, HasShortIndex, IsBonded, IsBound, IsBoundTo, IsControlRun, LastIsBound, MayAsk, NoOperation, OperatesNothing, OperatesOnce, operated, operates, operation_in, is_control_request}
+use Rattle.gw_orders.specs.Bonds.{Bonds, HasShortIndex, IsBonded, IsBound, IsBoundTo, IsControlRun}
+use Rattle.gw_orders.specs.Bonds.{LastIsBound, MayAsk, NoOperation, OperatesNothing, OperatesOnce}
+use Rattle.gw_orders.specs.Bonds.{operated, operates, operation_in, is_control_request}
 use Rattle.gw_orders.proofs.Held.{held}
 use Rattle.gw_orders.proofs.Story.{Holds, OfOrder, Story, Tied, story}
 use Rattle.gw_orders.proofs.BondsTold.{ToldTied}

@@ -1,5 +1,6 @@
 -- What was told is of executes whose orders are over.
-use Rattle.std.proofs.Common.{◌≡◌, ℕ, zero, suc, ◌+◌, ◌≤◌, ◌<◌, Bool, true, false, cond, not, ◌&&◌, List, [], ◌∷◌, ◌++◌, length, map, Option, Some, None, option_map, refl, sym, ap, subst, ◌∙◌, arith}
+use Rattle.std.proofs.Common.{◌≡◌, ℕ, zero, suc, ◌+◌, ◌≤◌, ◌<◌, Bool, true, false, cond, not, ◌&&◌, List, []}
+use Rattle.std.proofs.Common.{◌∷◌, ◌++◌, length, map, Option, Some, None, option_map, refl, sym, ap, subst, ◌∙◌, arith}
 use Rattle.std.specs.Prelude.{◌==◌, option_and_then, slice_get}
 use Rattle.std.specs.List.{AllByRecursion}
 use Rattle.std.specs.Option.{option_to_list}
@@ -20,12 +21,14 @@ use Rattle.gw_control.specs.Controls.{Controls, controls_after_end, controls_aft
 use Rattle.gw_control.specs.Held.{controls_after_losses}
 use Rattle.gw_control.specs.Moves.{one_if}
 use Rattle.gw_control.specs.Orders.{Outgoing, is_named, outcome_of, outgoing_after_end, outgoing_after_ended, outgoing_after_lost}
-use Rattle.gw_steps.specs.Controls.{controls_after_all_ended, controls_after_closes, controls_with_ended, outcome_ended, outcomes_ended, outcomes_lost}
+use Rattle.gw_steps.specs.Controls.{controls_after_all_ended, controls_after_closes}
+use Rattle.gw_steps.specs.Controls.{controls_with_ended, outcome_ended, outcomes_ended, outcomes_lost}
 use Rattle.gw_history.proofs.Ended.{ended_there}
 use Rattle.gw_orders.specs.Executes.{Execute}
 use Rattle.gw_orders.specs.Marks.{Mark}
 use Rattle.gw_orders.specs.ToldOnce.{AllTell, TellsOf, counted, was_done}
-use Rattle.gw_orders.proofs.Held.{held, held_at, held_changed, held_leaving, held_mapped, held_nowhere, held_under_way, held_waiting, under_way_at, waiting_at}
+use Rattle.gw_orders.proofs.Held.{held, held_at, held_changed, held_leaving, held_mapped, held_nowhere}
+use Rattle.gw_orders.proofs.Held.{held_under_way, held_waiting, under_way_at, waiting_at}
 use Rattle.gw_orders.proofs.Story.{ForTask, GoesOn, Holds, Keeps, Sends, Story, Tied, Waits, exchange_at, numbered_below}
 use Rattle.gw_orders.proofs.Ends.{flat, flat_at, lost_waiting}
 use Rattle.gw_orders.proofs.Tells.{Tells, TellsAt, failure_tells, waiting_tells}

@@ -1,5 +1,6 @@
 -- What an APDU of a client makes of the selections whose sessions stand.
-use Rattle.std.proofs.Common.{◌≡◌, ℕ, zero, suc, ◌+◌, ◌<◌, ◌≤◌, Bool, true, false, cond, not, List, [], ◌∷◌, length, Option, Some, None, option_map, refl, sym, ap, subst, ◌∙◌, arith}
+use Rattle.std.proofs.Common.{◌≡◌, ℕ, zero, suc, ◌+◌, ◌<◌, ◌≤◌, Bool, true, false, cond, not, List, []}
+use Rattle.std.proofs.Common.{◌∷◌, length, Option, Some, None, option_map, refl, sym, ap, subst, ◌∙◌, arith}
 use Rattle.std.specs.Prelude.{◌==◌, ◌&&◌, slice_get, slice_index}
 use Rattle.std.proofs.lemmas.Option.{slice_get_within}
 use Rattle.gw_model.specs.Places.{change}
@@ -28,10 +29,12 @@ use Rattle.gw_steps.specs.Steps.{client_after_frame, latest, one_if, reply_of_ev
 use Rattle.gw_steps.specs.Runs.{Entry}
 use Rattle.gw_orders.specs.Sessions.{ends_session}
 use Rattle.gw_orders.specs.Selections.{Selected, moment_at, selected_by, selected_if, selected_with, unless_by}
-use Rattle.gw_orders.proofs.Opened.{Fresh, Leaves, end_leaves, fresh_begun, fresh_left, open_at, open_left, still_leaves, unless_none, unless_same}
+use Rattle.gw_orders.proofs.Opened.{Fresh, Leaves, end_leaves, fresh_begun, fresh_left}
+use Rattle.gw_orders.proofs.Opened.{open_at, open_left, still_leaves, unless_none, unless_same}
 use Rattle.gw_orders.proofs.Commanded.{commanded}
 use Rattle.gw_steps.specs.Queries.{started_at}
-use Rattle.gw_orders.proofs.Stages.{begun_stage, closed_begins, closed_stage, information_started, stage_changed, stage_stays, stage_there, stopped_stage, taken_begins, taken_stage}
+use Rattle.gw_orders.proofs.Stages.{begun_stage, closed_begins, closed_stage, information_started, stage_changed}
+use Rattle.gw_orders.proofs.Stages.{stage_stays, stage_there, stopped_stage, taken_begins, taken_stage}
 
 -- ---- the sessions of all clients
 

@@ -1,5 +1,6 @@
 -- At each place of a run the selections whose sessions stand are those that the history tells.
-use Rattle.std.proofs.Common.{◌≡◌, ℕ, zero, suc, ◌+◌, Bool, false, cond, List, [], ◌∷◌, length, map, replicate, Option, Some, None, Result, Ok, Err, refl, sym, ap, subst, ◌∙◌, arith, inl, inr}
+use Rattle.std.proofs.Common.{◌≡◌, ℕ, zero, suc, ◌+◌, Bool, false, cond, List, [], ◌∷◌, length, map, replicate}
+use Rattle.std.proofs.Common.{Option, Some, None, Result, Ok, Err, refl, sym, ap, subst, ◌∙◌, arith, inl, inr}
 use Rattle.std.specs.Prelude.{◌==◌, slice_get, slice_index}
 use Rattle.std.proofs.lemmas.Bool.{cases_Bool}
 use Rattle.std.proofs.lemmas.List.{length-map}
@@ -18,7 +19,8 @@ use Rattle.gw_control.specs.Moves.{IsSoundControls}
 use Rattle.gw_control.specs.Orders.{places as order_places}
 use Rattle.gw_station.specs.declared.client.Stage.{Stage}
 use Rattle.gw_station.specs.declared.client.Stage.TheVariants.{Down, Started, Stopped}
-use Rattle.gw_station.specs.Client.{Client, client_after_close, client_after_tick, client_after_up, client_with_news, is_started, is_timed_out, is_up}
+use Rattle.gw_station.specs.Client.{Client, client_after_close, client_after_tick, client_after_up}
+use Rattle.gw_station.specs.Client.{client_with_news, is_started, is_timed_out, is_up}
 use Rattle.gw_station.specs.Frames.{begins, close_of, event_of}
 use Rattle.gw_station.specs.Pump.{client_after_pump}
 use Rattle.gw_steps.specs.declared.step.Step.{Step}
@@ -28,7 +30,10 @@ use Rattle.gw_steps.specs.declared.step.StepFault.{StepFault}
 use Rattle.gw_steps.specs.declared.step.StepFault.TheVariants.{NoClient}
 use Rattle.gw_steps.specs.Controls.{clients_told, controls_with_ended, ended_lost, order_due}
 use Rattle.gw_steps.specs.State.{State, at_first, client_limit, later}
-use Rattle.gw_steps.specs.Steps.{Allowed, after, begun_by, bits_of, can_be_counted, client_reply, controls_after_frame, ended_late, fault_of, is_accepting, latest, losses, needs, order_ended, outcome, outcomes_of_fragment, outcomes_of_loss, outcomes_of_tick, parts_after_poll, reply_of_event, reply_to}
+use Rattle.gw_steps.specs.Steps.{Allowed, after, begun_by, bits_of, can_be_counted, client_reply}
+use Rattle.gw_steps.specs.Steps.{controls_after_frame, ended_late, fault_of, is_accepting, latest, losses}
+use Rattle.gw_steps.specs.Steps.{needs, order_ended, outcome, outcomes_of_fragment, outcomes_of_loss}
+use Rattle.gw_steps.specs.Steps.{outcomes_of_tick, parts_after_poll, reply_of_event, reply_to}
 use Rattle.gw_steps.specs.Runs.{Entry, state_after}
 use Rattle.gw_steps.proofs.Inversion.{answered, who_is_down, who_is_up}
 use Rattle.gw_steps.proofs.Running.{entry}

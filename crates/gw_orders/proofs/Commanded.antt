@@ -1,5 +1,7 @@
 -- What a command makes of the selections whose sessions stand.
-use Rattle.std.proofs.Common.{◌≡◌, ℕ, zero, suc, ◌<◌, Bool, true, false, cond, not, ◌&&◌, List, [], ◌∷◌, length, Option, Some, None, option_map, is_none, is_some, refl, sym, ap, subst, ◌∙◌, arith, inl, inr, true≢false}
+use Rattle.std.proofs.Common.{◌≡◌, ℕ, zero, suc, ◌<◌, Bool, true, false, cond, not, ◌&&◌}
+use Rattle.std.proofs.Common.{List, [], ◌∷◌, length, Option, Some, None, option_map, is_none}
+use Rattle.std.proofs.Common.{is_some, refl, sym, ap, subst, ◌∙◌, arith, inl, inr, true≢false}
 use Rattle.std.specs.Prelude.{◌==◌, slice_get, IfSome}
 use Rattle.std.proofs.lemmas.Bool.{cases_eq, eq-eqb, eqb-true, eqb-false}
 use Rattle.gw_model.specs.First.{first_of, when}
@@ -12,9 +14,13 @@ use Rattle.gw_control.specs.declared.asked.AskedCommand.{AskedCommand}
 use Rattle.gw_control.specs.declared.selection.Selection.{Selection}
 use Rattle.gw_control.specs.declared.refusal.Refusal.{Refusal}
 use Rattle.gw_control.specs.declared.refusal.Refusal.TheVariants.{SelectedByAnother}
-use Rattle.gw_control.specs.Controls.{Controls, act_accepted, act_by, controls_after_for, controls_ordering, controls_selecting, controls_unselecting, element_refusal, is_deactivation, is_selectable, standing_at}
-use Rattle.gw_control.specs.Selections.{asks_same, is_fresh, is_open, is_own, is_select, is_selected, is_session, is_taken, selection_by, standing_in, stands, unselected_by}
-use Rattle.gw_orders.specs.Selections.{Selected, if_fresh, is_free_for, is_selected_by, is_selected_for, may_select, selected_after, unless_by}
+use Rattle.gw_control.specs.Controls.{Controls, act_accepted, act_by, controls_after_for}
+use Rattle.gw_control.specs.Controls.{controls_ordering, controls_selecting, controls_unselecting}
+use Rattle.gw_control.specs.Controls.{element_refusal, is_deactivation, is_selectable, standing_at}
+use Rattle.gw_control.specs.Selections.{asks_same, is_fresh, is_open, is_own, is_select, is_selected}
+use Rattle.gw_control.specs.Selections.{is_session, is_taken, selection_by, standing_in, stands, unselected_by}
+use Rattle.gw_orders.specs.Selections.{Selected, if_fresh, is_free_for, is_selected_by}
+use Rattle.gw_orders.specs.Selections.{is_selected_for, may_select, selected_after, unless_by}
 use Rattle.gw_orders.proofs.Words.{permitted_is, same_is}
 use Rattle.gw_orders.proofs.Opened.{Fresh, IsCurrent, IsKept, KeptAt, open_at, open_selection, told_of}
 

@@ -1,5 +1,6 @@
 -- Orders end: sessions end, outstations are lost, answers are late.
-use Rattle.std.proofs.Common.{◌≡◌, ℕ, zero, suc, ◌+◌, ◌<◌, Bool, true, false, cond, List, [], ◌∷◌, drop, map, Option, Some, None, option_map, refl, sym, ap, subst, ◌∙◌, arith}
+use Rattle.std.proofs.Common.{◌≡◌, ℕ, zero, suc, ◌+◌, ◌<◌, Bool, true, false, cond, List, [], ◌∷◌, drop}
+use Rattle.std.proofs.Common.{map, Option, Some, None, option_map, refl, sym, ap, subst, ◌∙◌, arith}
 use Rattle.std.specs.Prelude.{option_and_then, slice_get}
 use Rattle.std.specs.List.{AllByRecursion}
 use Rattle.std.proofs.lemmas.Bool.{eq-eqb}
@@ -10,12 +11,14 @@ use Rattle.dnp_master.specs.declared.exchange.Exchange.{Exchange}
 use Rattle.dnp_master.specs.declared.exchange.Exchange.TheVariants.{Idle, Waiting, Selected}
 use Rattle.dnp_master.specs.declared.task.Task.{Task}
 use Rattle.dnp_master.specs.declared.task.Task.TheVariants.{Command}
-use Rattle.dnp_master.specs.Master.{Master, due_unanswered, ended, ended_by_loss, ended_by_tick, ended_late, is_late, master_after_tick, master_down, master_with_exchange_after, order_of, order_taken}
+use Rattle.dnp_master.specs.Master.{Master, due_unanswered, ended, ended_by_loss, ended_by_tick, ended_late, is_late}
+use Rattle.dnp_master.specs.Master.{master_after_tick, master_down, master_with_exchange_after, order_of, order_taken}
 use Rattle.gw_control.specs.declared.accepted.Accepted.{Accepted}
 use Rattle.gw_control.specs.declared.accepted.UnderWay.{UnderWay}
 use Rattle.gw_control.specs.Controls.{Controls, controls_after_end, controls_after_lost}
 use Rattle.gw_control.specs.Held.{controls_after_losses}
-use Rattle.gw_control.specs.Orders.{Outgoing, is_of_others, left_by, outgoing_after_end, outgoing_after_ended, outgoing_after_lost, under_way_after}
+use Rattle.gw_control.specs.Orders.{Outgoing, is_of_others, left_by, outgoing_after_end}
+use Rattle.gw_control.specs.Orders.{outgoing_after_ended, outgoing_after_lost, under_way_after}
 use Rattle.gw_steps.specs.Controls.{controls_after_all_ended, controls_after_closes, controls_with_ended}
 use Rattle.gw_history.proofs.Told.{filter_all}
 use Rattle.gw_history.proofs.Ended.{all_ended_count, ended_count, ended_there, losses_count, losses_there}

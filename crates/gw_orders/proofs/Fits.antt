@@ -1,5 +1,6 @@
 -- What a command asks of its control can be written as a request, and read again.
-use Rattle.std.proofs.Common.{◌≡◌, ℕ, ℤ, pos, negsuc, ◌+◌, ◌≤◌, Bool, true, false, cond, List, [], ◌∷◌, Option, Some, None, option_map, refl, subst, arith}
+use Rattle.std.proofs.Common.{◌≡◌, ℕ, ℤ, pos, negsuc, ◌+◌, ◌≤◌, Bool, true, false, cond, List}
+use Rattle.std.proofs.Common.{[], ◌∷◌, Option, Some, None, option_map, refl, subst, arith}
 use Rattle.std.specs.Prelude.{◌==◌, ◌&&◌}
 use Rattle.std.specs.List.{AllByRecursion}
 use Rattle.std.specs.Int.{w16}
@@ -20,7 +21,8 @@ use Rattle.dnp_app.proofs.Operated.{FitsObject}
 use Rattle.iec_command.specs.declared.command.Action.{Action}
 use Rattle.iec_command.specs.declared.command.Action.TheVariants.{Single, Double, Setpoint}
 use Rattle.iec_command.specs.declared.command.Command.{Command}
-use Rattle.gw_control.specs.Intents.{act_of, control_for, if_of_type, is_of_type, has_16_bits, scaled_by, shape_at_rest, state_of, switched, value_of}
+use Rattle.gw_control.specs.Intents.{act_of, control_for, if_of_type, is_of_type, has_16_bits}
+use Rattle.gw_control.specs.Intents.{scaled_by, shape_at_rest, state_of, switched, value_of}
 use Rattle.gw_orders.specs.Bonds.{HasShortIndex}
 
 abbrev FitsIf : Option Act → Type 0

@@ -1,5 +1,6 @@
 -- An execute that is accepted is a new order, and nothing was asked for its number.
-use Rattle.std.proofs.Common.{◌≡◌, ℕ, suc, ◌+◌, ◌≤◌, ◌<◌, Bool, true, false, cond, List, [], ◌∷◌, ◌++◌, length, Option, Some, None, option_map, refl, sym, ap, subst, ◌∙◌, arith, inl, inr}
+use Rattle.std.proofs.Common.{◌≡◌, ℕ, suc, ◌+◌, ◌≤◌, ◌<◌, Bool, true, false, cond, List, [], ◌∷◌, ◌++◌}
+use Rattle.std.proofs.Common.{length, Option, Some, None, option_map, refl, sym, ap, subst, ◌∙◌, arith, inl, inr}
 use Rattle.std.specs.Prelude.{◌==◌, slice_get}
 use Rattle.std.specs.List.{AllByRecursion}
 use Rattle.std.specs.Option.{option_to_list}
@@ -20,7 +21,9 @@ use Rattle.gw_control.specs.declared.answer.Answer.{Answer}
 use Rattle.gw_control.specs.declared.answer.Outcome.{Outcome}
 use Rattle.gw_control.specs.declared.asked.AskedCommand.{AskedCommand}
 use Rattle.gw_control.specs.declared.selection.Selection.{Selection}
-use Rattle.gw_control.specs.Controls.{Controls, controls_after_end, accepted_by, act_accepted, answer_at, answer_to_act, confirmed_if, controls_after_at, controls_ordering, controls_selecting, controls_unselecting, is_deactivation, is_selectable, standing_at, IsAccepted}
+use Rattle.gw_control.specs.Controls.{Controls, controls_after_end, accepted_by, act_accepted, answer_at, answer_to_act}
+use Rattle.gw_control.specs.Controls.{confirmed_if, controls_after_at, controls_ordering, controls_selecting}
+use Rattle.gw_control.specs.Controls.{controls_unselecting, is_deactivation, is_selectable, standing_at, IsAccepted}
 use Rattle.gw_control.specs.Intents.{act_of, control_for, intent_of}
 use Rattle.gw_control.specs.Moves.{one_if}
 use Rattle.gw_control.specs.Orders.{Outgoing, outgoing_with}

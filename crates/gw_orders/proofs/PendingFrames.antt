@@ -1,5 +1,6 @@
 -- An APDU comes: an execute that is accepted is pending, and a session ends.
-use Rattle.std.proofs.Common.{◌≡◌, ℕ, ◌+◌, Bool, true, false, cond, List, [], ◌∷◌, ◌++◌, Option, Some, None, option_map, refl, sym, ap, subst, ◌∙◌, inl, inr}
+use Rattle.std.proofs.Common.{◌≡◌, ℕ, ◌+◌, Bool, true, false, cond, List, [], ◌∷◌, ◌++◌, Option}
+use Rattle.std.proofs.Common.{Some, None, option_map, refl, sym, ap, subst, ◌∙◌, inl, inr}
 use Rattle.std.specs.Prelude.{slice_get}
 use Rattle.std.specs.Option.{option_to_list}
 use Rattle.std.proofs.lemmas.Bool.{cases_eq, eq-eqb, ne_eqb}
@@ -11,7 +12,9 @@ use Rattle.gw_picture.proofs.Lists.{change-here, change-there}
 use Rattle.gw_control.specs.declared.accepted.Accepted.{Accepted}
 use Rattle.gw_control.specs.declared.asked.AskedCommand.{AskedCommand}
 use Rattle.gw_control.specs.declared.selection.Selection.{Selection}
-use Rattle.gw_control.specs.Controls.{Controls, accepted_by, act_accepted, answer_at, answer_to_act, confirmed_if, controls_after_at, controls_ordering, controls_selecting, controls_unselecting, is_deactivation, is_full_at, is_selectable, standing_at}
+use Rattle.gw_control.specs.Controls.{Controls, accepted_by, act_accepted, answer_at, answer_to_act, confirmed_if}
+use Rattle.gw_control.specs.Controls.{controls_after_at, controls_ordering, controls_selecting}
+use Rattle.gw_control.specs.Controls.{controls_unselecting, is_deactivation, is_full_at, is_selectable, standing_at}
 use Rattle.gw_control.specs.Orders.{Outgoing, outgoing_with}
 use Rattle.gw_control.specs.Selections.{is_own, is_select}
 use Rattle.gw_control.proofs.Keeps.{accepted}

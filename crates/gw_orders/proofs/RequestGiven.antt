@@ -1,5 +1,6 @@
 -- What a poll gives is what is due by the history, and no other step gives a request.
-use Rattle.std.proofs.Common.{◌≡◌, ℕ, ◌<◌, Bool, true, false, cond, not, ◌&&◌, List, [], ◌∷◌, map, Option, Some, None, option_map, is_some, Result, Ok, Err, refl, sym, ap, subst, ◌∙◌}
+use Rattle.std.proofs.Common.{◌≡◌, ℕ, ◌<◌, Bool, true, false, cond, not, ◌&&◌, List, [], ◌∷◌, map, Option}
+use Rattle.std.proofs.Common.{Some, None, option_map, is_some, Result, Ok, Err, refl, sym, ap, subst, ◌∙◌}
 use Rattle.std.specs.Prelude.{option_and_then, slice_get}
 use Rattle.std.specs.List.{AllByRecursion, filter}
 use Rattle.gw_model.specs.First.{first_of}
@@ -34,7 +35,8 @@ use Rattle.gw_steps.specs.declared.step.StepFault.{StepFault}
 use Rattle.gw_steps.specs.declared.step.StepFault.TheVariants.{NoOutstation}
 use Rattle.gw_steps.specs.Controls.{order_due, order_for}
 use Rattle.gw_steps.specs.State.{State}
-use Rattle.gw_steps.specs.Steps.{Allowed, can_be_counted, client_reply, fault_of, latest, needs, outcome, outstation_reply, reply_asking, reply_giving, reply_of_event, reply_to, request_polled}
+use Rattle.gw_steps.specs.Steps.{Allowed, can_be_counted, client_reply, fault_of, latest, needs, outcome}
+use Rattle.gw_steps.specs.Steps.{outstation_reply, reply_asking, reply_giving, reply_of_event, reply_to, request_polled}
 use Rattle.gw_steps.specs.Runs.{Entry, state_after}
 use Rattle.gw_steps.proofs.Inversion.{answered, who_is_up}
 use Rattle.gw_steps.proofs.Running.{entry}
@@ -49,7 +51,8 @@ use Rattle.gw_orders.specs.Pending.{Pending, is_marked, is_select, pending}
 use Rattle.gw_orders.proofs.Rows.{row_under_way, row_waiting, rows, rows_in}
 use Rattle.gw_orders.proofs.Shapes.{all_unmarked}
 use Rattle.gw_orders.specs.Talk.{Turn, next_number, talk}
-use Rattle.gw_orders.specs.Requests.{Due, EntryGives, GivesDue, IsDue, OfOrder, StepGives, due_at, first_due, in_rank, is_selected, of_oldest}
+use Rattle.gw_orders.specs.Requests.{Due, EntryGives, GivesDue, IsDue, OfOrder, StepGives}
+use Rattle.gw_orders.specs.Requests.{due_at, first_due, in_rank, is_selected, of_oldest}
 use Rattle.gw_orders.proofs.RequestTurns.{IsTold}
 use Rattle.gw_orders.proofs.RequestRanked.{Fits, first_fits}
 use Rattle.gw_orders.proofs.RequestSteps.{Told, ToldAt}

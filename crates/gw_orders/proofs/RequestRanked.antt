@@ -1,5 +1,6 @@
 -- The first of the master's tasks is the first that is due by the talk, and its request asks for just that.
-use Rattle.std.proofs.Common.{◌≡◌, ℕ, ◌+◌, ◌<◌, Bool, true, false, List, [], ◌∷◌, ◌++◌, Option, Some, None, option_map, refl, ap, subst, sym, arith}
+use Rattle.std.proofs.Common.{◌≡◌, ℕ, ◌+◌, ◌<◌, Bool, true, false, List, [], ◌∷◌, ◌++◌}
+use Rattle.std.proofs.Common.{Option, Some, None, option_map, refl, ap, subst, sym, arith}
 use Rattle.std.specs.Prelude.{slice_get}
 use Rattle.gw_model.specs.First.{first_of, when}
 use Rattle.dnp_app.specs.declared.response.ApplicationControl.{ApplicationControl}

@@ -1,5 +1,6 @@
 -- Each step keeps what ties outstations to the talks with them.
-use Rattle.std.proofs.Common.{◌≡◌, ℕ, Bool, true, false, cond, ◌&&◌, List, [], ◌∷◌, Option, Some, None, option_map, is_some, is_none, Result, Ok, Err, refl, sym, ap, subst, ◌∙◌, inl, inr}
+use Rattle.std.proofs.Common.{◌≡◌, ℕ, Bool, true, false, cond, ◌&&◌, List, [], ◌∷◌, Option, Some, None}
+use Rattle.std.proofs.Common.{option_map, is_some, is_none, Result, Ok, Err, refl, sym, ap, subst, ◌∙◌, inl, inr}
 use Rattle.std.specs.Prelude.{◌==◌, slice_get}
 use Rattle.std.proofs.lemmas.Bool.{cases_Bool, cases_eq, eq-eqb, eqb-true, ne_eqb}
 use Rattle.gw_model.specs.First.{first_of}
@@ -16,8 +17,11 @@ use Rattle.dnp_master.specs.declared.exchange.Exchange.{Exchange}
 use Rattle.dnp_master.specs.declared.exchange.Exchange.TheVariants.{Idle, Waiting, Selected}
 use Rattle.dnp_master.specs.declared.task.Task.{Task}
 use Rattle.dnp_master.specs.declared.task.Task.TheVariants.{Command}
-use Rattle.dnp_master.specs.Fragments.{accepts, control_in, is_acceptance, is_begun_rightly, master_after_accepted, master_after_answer, master_after_fragment, verdict_of_answer}
-use Rattle.dnp_master.specs.Master.{Master, due_unanswered, first_task, is_late, master_after_given, master_after_tick, master_after_up, master_down, master_with_exchange_after, order_task, task_given, task_request, tasks_due}
+use Rattle.dnp_master.specs.Fragments.{accepts, control_in, is_acceptance, is_begun_rightly, master_after_accepted}
+use Rattle.dnp_master.specs.Fragments.{master_after_answer, master_after_fragment, verdict_of_answer}
+use Rattle.dnp_master.specs.Master.{Master, due_unanswered, first_task, is_late, master_after_given}
+use Rattle.dnp_master.specs.Master.{master_after_tick, master_after_up, master_down, master_with_exchange_after}
+use Rattle.dnp_master.specs.Master.{order_task, task_given, task_request, tasks_due}
 use Rattle.gw_steps.specs.declared.step.Step.{Step}
 use Rattle.gw_steps.specs.declared.step.Step.TheVariants as steps
 use Rattle.gw_steps.specs.declared.step.Reply.{Reply}
@@ -25,7 +29,8 @@ use Rattle.gw_steps.specs.declared.step.StepFault.{StepFault}
 use Rattle.gw_steps.specs.declared.step.StepFault.TheVariants.{NoOutstation}
 use Rattle.gw_steps.specs.Controls.{order_due}
 use Rattle.gw_steps.specs.State.{State, at_first}
-use Rattle.gw_steps.specs.Steps.{Allowed, after, can_be_counted, fault_of, is_accepting, latest, needs, outcome, outstation_reply, parts_after_fragment, reply_asking, reply_to, request_polled}
+use Rattle.gw_steps.specs.Steps.{Allowed, after, can_be_counted, fault_of, is_accepting, latest, needs, outcome}
+use Rattle.gw_steps.specs.Steps.{outstation_reply, parts_after_fragment, reply_asking, reply_to, request_polled}
 use Rattle.gw_steps.specs.Runs.{Entry, state_after}
 use Rattle.gw_steps.proofs.Inversion.{answered, who_is_up}
 use Rattle.gw_steps.proofs.Running.{entry}
@@ -38,7 +43,8 @@ use Rattle.gw_orders.specs.Pending.{is_late_at}
 use Rattle.gw_orders.specs.Selections.{moment_at}
 use Rattle.gw_orders.specs.Talk.{Turn, Up, Accepts, GivesUp, talk, talk_giving}
 use Rattle.gw_orders.specs.Requests.{Due, in_rank}
-use Rattle.gw_orders.proofs.RequestTurns.{IsRecordedAt, IsTold, SentAs, told_answer, told_asking, told_down, told_given_up, told_unsolicited, told_up}
+use Rattle.gw_orders.proofs.RequestTurns.{IsRecordedAt, IsTold, SentAs, told_answer, told_asking}
+use Rattle.gw_orders.proofs.RequestTurns.{told_down, told_given_up, told_unsolicited, told_up}
 use Rattle.gw_orders.proofs.RequestRanked.{Fits, first_fits}
 use Rattle.gw_orders.proofs.Verdicts.{answer_verdict}
 

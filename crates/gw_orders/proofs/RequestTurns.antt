@@ -1,5 +1,6 @@
 -- What ties an outstation's part of the state to the talk with it, and how each turn keeps it.
-use Rattle.std.proofs.Common.{◌≡◌, ℕ, ◌+◌, ◌/◌, ◌%◌, Bool, true, false, cond, not, ◌&&◌, ◌||◌, List, [], ◌∷◌, Option, Some, None, refl, sym, ap, ◌∙◌, arith}
+use Rattle.std.proofs.Common.{◌≡◌, ℕ, ◌+◌, ◌/◌, ◌%◌, Bool, true, false, cond, not, ◌&&◌}
+use Rattle.std.proofs.Common.{◌||◌, List, [], ◌∷◌, Option, Some, None, refl, sym, ap, ◌∙◌, arith}
 use Rattle.std.proofs.Math.Bool.{or-false}
 use Rattle.std.specs.Prelude.{◌==◌, option_and_then, option_map, slice_index}
 use Rattle.std.proofs.lemmas.Bool.{eq-eqb, eqb-true, ne_eqb}
@@ -14,11 +15,17 @@ use Rattle.dnp_master.specs.declared.exchange.Exchange.{Exchange}
 use Rattle.dnp_master.specs.declared.exchange.Exchange.TheVariants.{Idle, Waiting, Selected}
 use Rattle.dnp_master.specs.declared.indications.Indications.{Indications}
 use Rattle.dnp_master.specs.declared.task.Task.{Task}
-use Rattle.dnp_master.specs.declared.task.Task.TheVariants.{ClearRestart, WriteTime, RecordTime, Disable, Integrity, Enable, EventPoll, Command}
-use Rattle.dnp_master.specs.Master.{Master, due_unanswered, due_without, following, master_after_up, master_asking, master_down, nothing_due, task_request}
-use Rattle.dnp_master.specs.Fragments.{clears_restart, control_in, due_once_answered, due_with, exchange_once_answered, indications_in, is_done, master_after_answer, master_after_unsolicited, records_time}
+use Rattle.dnp_master.specs.declared.task.Task.TheVariants.{ClearRestart, WriteTime, RecordTime, Disable}
+use Rattle.dnp_master.specs.declared.task.Task.TheVariants.{Integrity, Enable, EventPoll, Command}
+use Rattle.dnp_master.specs.Master.{Master, due_unanswered, due_without, following, master_after_up}
+use Rattle.dnp_master.specs.Master.{master_asking, master_down, nothing_due, task_request}
+use Rattle.dnp_master.specs.Fragments.{clears_restart, control_in, due_once_answered, due_with}
+use Rattle.dnp_master.specs.Fragments.{exchange_once_answered, indications_in, is_done}
+use Rattle.dnp_master.specs.Fragments.{master_after_answer, master_after_unsolicited, records_time}
 use Rattle.gw_orders.specs.Talk.{Turn, Up, Sends, Accepts, GivesUp, asked_by, last_asked, last_sent, next_number, number_behind}
-use Rattle.gw_orders.specs.Due.{clear_restart, disabling_due, enabling_due, event_poll, events_wanted, had, iin, integrity_poll, integrity_wanted, is_for, recording_due, restart_due, since, tells_of_events, time_due}
+use Rattle.gw_orders.specs.Due.{clear_restart, disabling_due, enabling_due, event_poll}
+use Rattle.gw_orders.specs.Due.{events_wanted, had, iin, integrity_poll, integrity_wanted, is_for}
+use Rattle.gw_orders.specs.Due.{recording_due, restart_due, since, tells_of_events, time_due}
 use Rattle.gw_history.proofs.Masters.{first_octet}
 
 -- ---- the tie

@@ -1,5 +1,6 @@
 -- The sessions that a tick ends: those of the clients that it closes, as the bits of its reply tell.
-use Rattle.std.proofs.Common.{◌≡◌, ℕ, zero, suc, Bool, true, false, ◌&&◌, List, [], ◌∷◌, Option, Some, None, refl, ap, ◌∙◌}
+use Rattle.std.proofs.Common.{◌≡◌, ℕ, zero, suc, Bool, true, false, ◌&&◌, List}
+use Rattle.std.proofs.Common.{[], ◌∷◌, Option, Some, None, refl, ap, ◌∙◌}
 use Rattle.std.specs.Prelude.{◌==◌, slice_get, if◌then◌else◌}
 use Rattle.gw_model.specs.declared.control.Ended.{Ended}
 use Rattle.gw_control.specs.Controls.{Controls, controls_after_end, controls_after_lost}

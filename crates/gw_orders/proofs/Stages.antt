@@ -1,5 +1,6 @@
 -- Which clients are started, as steps change them.
-use Rattle.std.proofs.Common.{◌≡◌, ℕ, zero, suc, Bool, true, false, cond, not, ◌&&◌, List, [], ◌∷◌, drop, map, Option, Some, None, option_map, refl, sym, ap, subst, ◌∙◌, inl, inr}
+use Rattle.std.proofs.Common.{◌≡◌, ℕ, zero, suc, Bool, true, false, cond, not, ◌&&◌, List, [], ◌∷◌, drop}
+use Rattle.std.proofs.Common.{map, Option, Some, None, option_map, refl, sym, ap, subst, ◌∙◌, inl, inr}
 use Rattle.std.specs.Prelude.{◌==◌, slice_get}
 use Rattle.std.proofs.lemmas.Bool.{cases_eq, eq-eqb, ne_eqb}
 use Rattle.gw_model.specs.First.{first_of, when}
@@ -23,7 +24,8 @@ use Rattle.gw_station.specs.declared.sending.Sending.{Sending}
 use Rattle.gw_station.specs.declared.sending.Sending.TheVariants as sendings
 use Rattle.gw_station.specs.declared.client.Stage.TheVariants.{Started, Stopped}
 use Rattle.gw_station.specs.Client.{Client, client_after_close, client_after_tick, client_anew, is_started, is_timed_out}
-use Rattle.gw_station.specs.Frames.{begins, client_by, client_taking, close_of, closes_judged, command_in, event_by, event_taking, floods, judged_asdu}
+use Rattle.gw_station.specs.Frames.{begins, client_by, client_taking, close_of, closes_judged}
+use Rattle.gw_station.specs.Frames.{command_in, event_by, event_taking, floods, judged_asdu}
 use Rattle.gw_station.specs.Pump.{client_after_pump, client_by_offer, offered}
 use Rattle.gw_station.proofs.Places.{not_flooded}
 use Rattle.gw_steps.specs.Controls.{client_told_of, clients_told}

@@ -1,5 +1,6 @@
 -- At each place of a run an outstation is up where the history tells so.
-use Rattle.std.proofs.Common.{◌≡◌, ℕ, zero, suc, true, false, List, [], ◌∷◌, map, Option, Some, None, Result, Ok, Err, refl, ap, ◌∙◌, inl, inr}
+use Rattle.std.proofs.Common.{◌≡◌, ℕ, zero, suc, true, false, List, [], ◌∷◌, map, Option}
+use Rattle.std.proofs.Common.{Some, None, Result, Ok, Err, refl, ap, ◌∙◌, inl, inr}
 use Rattle.std.specs.Prelude.{◌==◌, slice_get}
 use Rattle.std.proofs.lemmas.Bool.{cases_Bool, eq-eqb, ne_eqb}
 use Rattle.gw_model.specs.declared.control.Order.{Order}
@@ -7,7 +8,8 @@ use Rattle.gw_entries.specs.Setup.{OutstationSetup}
 use Rattle.gw_map.specs.Settings.{Setup}
 use Rattle.dnp_app.specs.Response.{Fragment}
 use Rattle.dnp_master.specs.Fragments.{master_after_fragment}
-use Rattle.dnp_master.specs.Master.{Master, master_after_next, master_after_order, master_after_tick, master_after_up, master_down, task_given}
+use Rattle.dnp_master.specs.Master.{Master, master_after_next, master_after_order}
+use Rattle.dnp_master.specs.Master.{master_after_tick, master_after_up, master_down, task_given}
 use Rattle.gw_steps.specs.declared.step.Step.{Step}
 use Rattle.gw_steps.specs.declared.step.Step.TheVariants as steps
 use Rattle.gw_steps.specs.declared.step.Reply.{Reply}

@@ -1,5 +1,6 @@
 -- A fragment comes: it ends an answer, or it marks nothing.
-use Rattle.std.proofs.Common.{◌≡◌, ℕ, ◌<◌, Bool, true, false, cond, List, [], ◌∷◌, ◌++◌, Option, Some, None, refl, sym, ap, subst, ◌∙◌, arith}
+use Rattle.std.proofs.Common.{◌≡◌, ℕ, ◌<◌, Bool, true, false, cond, List, [], ◌∷◌}
+use Rattle.std.proofs.Common.{◌++◌, Option, Some, None, refl, sym, ap, subst, ◌∙◌, arith}
 use Rattle.std.specs.Prelude.{◌==◌}
 use Rattle.std.specs.List.{AllByRecursion}
 use Rattle.std.specs.Option.{option_to_list}
@@ -18,12 +19,16 @@ use Rattle.dnp_master.specs.declared.exchange.Awaited.{Awaited}
 use Rattle.dnp_master.specs.declared.exchange.Exchange.{Exchange}
 use Rattle.dnp_master.specs.declared.exchange.Exchange.TheVariants.{Idle, Waiting, Selected}
 use Rattle.dnp_master.specs.declared.task.Task.{Task}
-use Rattle.dnp_master.specs.declared.task.Task.TheVariants.{ClearRestart, WriteTime, RecordTime, Disable, Integrity, Enable, EventPoll, Command}
+use Rattle.dnp_master.specs.declared.task.Task.TheVariants.{ClearRestart, WriteTime, RecordTime, Disable}
+use Rattle.dnp_master.specs.declared.task.Task.TheVariants.{Integrity, Enable, EventPoll, Command}
 use Rattle.dnp_master.specs.declared.verdict.Verdict.{Verdict}
 use Rattle.dnp_master.specs.declared.verdict.Verdict.TheVariants.{Accepted, Repeated, Ignored}
 use Rattle.dnp_master.specs.declared.verdict.Ignored.TheVariants.{WrongSequence, WrongFirst}
 use Rattle.dnp_master.specs.Master.{Master, ended, following, order_of, task_request}
-use Rattle.dnp_master.specs.Fragments.{accepts, control_in, ended_answered, ended_with, exchange_once_answered, is_acceptance, is_begun_rightly, is_done, is_last, master_after_accepted, master_after_answer, master_after_fragment, master_after_unsolicited, verdict_of, verdict_of_answer, verdict_of_unsolicited}
+use Rattle.dnp_master.specs.Fragments.{accepts, control_in, ended_answered, ended_with, exchange_once_answered}
+use Rattle.dnp_master.specs.Fragments.{is_acceptance, is_begun_rightly, is_done, is_last, master_after_accepted}
+use Rattle.dnp_master.specs.Fragments.{master_after_answer, master_after_fragment, master_after_unsolicited}
+use Rattle.dnp_master.specs.Fragments.{verdict_of, verdict_of_answer, verdict_of_unsolicited}
 use Rattle.gw_control.specs.declared.accepted.Accepted.{Accepted as AcceptedExecute}
 use Rattle.gw_control.specs.declared.accepted.UnderWay.{UnderWay}
 use Rattle.gw_control.specs.Orders.{Outgoing}
@@ -34,7 +39,8 @@ use Rattle.gw_orders.specs.Marks.{Mark, Answered, is_end, mark_answering, took}
 use Rattle.gw_orders.specs.Bonds.{MayAnswer}
 use Rattle.gw_orders.specs.ToldOnce.{was_done}
 use Rattle.gw_orders.proofs.Held.{held_way, under_way_at, waiting_at}
-use Rattle.gw_orders.proofs.Story.{AskedBy, Awaits, ForTask, GoesOn, Holds, OfOrder, Sends, Story, Waits, alike_self, asking, mark_here, with_mark, sends_kept}
+use Rattle.gw_orders.proofs.Story.{AskedBy, Awaits, ForTask, GoesOn, Holds, OfOrder, Sends, Story}
+use Rattle.gw_orders.proofs.Story.{Waits, alike_self, asking, mark_here, with_mark, sends_kept}
 use Rattle.gw_orders.proofs.Asks.{Above, all_above, marked_apart, marked_bonded, marked_kept, reads_again, story_marked, waits_behind}
 use Rattle.gw_orders.proofs.Moves.{InOrderAt, Moves, waits_same}
 use Rattle.gw_orders.proofs.BondPolls.{nothing_named, plain_bond}

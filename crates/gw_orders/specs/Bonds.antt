@@ -1,7 +1,8 @@
 -- What binds requests to accepted executes. A request that names an order asks what the command of its execute asks, of
 -- the outstation of its control. For each execute there is at most one DIRECT_OPERATE (5), or one SELECT (3) and after
 -- its success one OPERATE (4; IEEE Std 1815, 4.4). No other request is a control request.
-use Rattle.std.specs.Prelude.{◌≡◌, ℕ, ◌+◌, ◌<◌, ◌≤◌, ◌^◌, Bool, true, false, List, [], ◌∷◌, Option, Some, None, option_map, ◌&&◌, nat_le}
+use Rattle.std.specs.Prelude.{◌≡◌, ℕ, ◌+◌, ◌<◌, ◌≤◌, ◌^◌, Bool, true, false, List}
+use Rattle.std.specs.Prelude.{[], ◌∷◌, Option, Some, None, option_map, ◌&&◌, nat_le}
 use Rattle.std.specs.List.{AllByRecursion}
 use Rattle.gw_model.specs.declared.control.Intent.{Intent}
 use Rattle.gw_entries.specs.declared.control.Control.{Control}

@@ -2,7 +2,9 @@
 -- has the control selected; a select where its value is permitted and no other client has it selected; an execute is
 -- accepted under five conditions (is_accepted). All else is confirmed negatively. Which orders are pending is told by
 -- the executes that were accepted so (orders).
-use Rattle.std.specs.Prelude.{◌≡◌, ◌↔◌, ℕ, suc, Bool, true, false, not, ◌&&◌, ◌||◌, nat_lt, List, [], ◌∷◌, ◌++◌, length, slice_get, take, Option, Some, None, Result, Ok, Err, if◌then◌else◌, IsSomeAnd}
+use Rattle.std.specs.Prelude.{◌≡◌, ◌↔◌, ℕ, suc, Bool, true, false, not, ◌&&◌, ◌||◌}
+use Rattle.std.specs.Prelude.{nat_lt, List, [], ◌∷◌, ◌++◌, length, slice_get, take, Option}
+use Rattle.std.specs.Prelude.{Some, None, Result, Ok, Err, if◌then◌else◌, IsSomeAnd}
 use Rattle.std.specs.List.{filter}
 use Rattle.std.specs.Option.{option_to_list}
 use Rattle.gw_model.specs.First.{when}
@@ -30,7 +32,8 @@ use Rattle.gw_history.specs.Up.{is_outstation_up}
 use Rattle.gw_orders.specs.Executes.{Execute, execute_in, executes}
 use Rattle.gw_orders.specs.Marks.{marks}
 use Rattle.gw_orders.specs.Pending.{Pending, is_marked, left_pending, order_made, pending}
-use Rattle.gw_orders.specs.Selections.{command_taken, commands_control, is_deactivation, is_free_for, is_permitted, is_selected_by, is_selected_for, may_select, moment_at, selected, standing}
+use Rattle.gw_orders.specs.Selections.{command_taken, commands_control, is_deactivation, is_free_for, is_permitted}
+use Rattle.gw_orders.specs.Selections.{is_selected_by, is_selected_for, may_select, moment_at, selected, standing}
 
 -- what was told of orders so far
 pub record Orders : Type 0 where

@@ -1,6 +1,8 @@
 -- What each request of the master is due by, told by the talk with its outstation (IEEE Std 1815, clause 5; periods,
 -- ranks and what is given up: own).
-use Rattle.std.specs.Prelude.{ℕ, ◌+◌, ◌-◌, ◌/◌, ◌%◌, ◌^◌, Bool, true, false, not, ◌&&◌, ◌||◌, ◌==◌, nat_le, List, [], ◌∷◌, bytes_eq, slice_index, Option, Some, None, option_map, if◌then◌else◌}
+use Rattle.std.specs.Prelude.{ℕ, ◌+◌, ◌-◌, ◌/◌, ◌%◌, ◌^◌, Bool, true, false, not}
+use Rattle.std.specs.Prelude.{◌&&◌, ◌||◌, ◌==◌, nat_le, List, [], ◌∷◌, bytes_eq}
+use Rattle.std.specs.Prelude.{slice_index, Option, Some, None, option_map, if◌then◌else◌}
 use Rattle.gw_model.specs.declared.poll.Poll.{Poll}
 use Rattle.dnp_app.specs.Asking.{Asks, Read, EnableUnsolicited, DisableUnsolicited, WriteIndication, RecordTime, WriteTime}
 use Rattle.dnp_app.specs.Response.{Fragment, is_unsolicited}

@@ -1,7 +1,8 @@
 -- The orders that are pending: accepted executes that aren't over, and didn't go with their session. An order waits
 -- until a request asks for it. It is over when its request was answered to the end, but for a SELECT that was taken;
 -- when no answer came in time; or when its outstation is lost.
-use Rattle.std.specs.Prelude.{ℕ, suc, Bool, true, false, not, ◌&&◌, ◌||◌, ◌==◌, is_none, is_some, List, [], ◌∷◌, ◌++◌, length, map, Option, Some, option_and_then, option_map}
+use Rattle.std.specs.Prelude.{ℕ, suc, Bool, true, false, not, ◌&&◌, ◌||◌, ◌==◌, is_none, is_some, List}
+use Rattle.std.specs.Prelude.{[], ◌∷◌, ◌++◌, length, map, Option, Some, option_and_then, option_map}
 use Rattle.std.specs.List.{filter}
 use Rattle.std.specs.Option.{option_to_list}
 use Rattle.gw_model.specs.First.{when}

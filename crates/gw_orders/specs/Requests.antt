@@ -1,6 +1,8 @@
 -- Which requests are given: a poll gives the first that is due in the order of rank, with the next sequence number, and
 -- nothing only while a request awaits its answer or none is due.
-use Rattle.std.specs.Prelude.{◌≡◌, ℕ, ◌+◌, ◌%◌, ◌^◌, Bool, false, not, ◌&&◌, is_some, List, [], ◌∷◌, slice_get, slice_index, Option, Some, None, option_and_then, option_map, Result, Ok, Err, if◌then◌else◌}
+use Rattle.std.specs.Prelude.{◌≡◌, ℕ, ◌+◌, ◌%◌, ◌^◌, Bool, false, not, ◌&&◌, is_some}
+use Rattle.std.specs.Prelude.{List, [], ◌∷◌, slice_get, slice_index, Option, Some, None}
+use Rattle.std.specs.Prelude.{option_and_then, option_map, Result, Ok, Err, if◌then◌else◌}
 use Rattle.std.specs.List.{filter}
 use Rattle.gw_model.specs.First.{first_of, when}
 use Rattle.gw_model.specs.declared.poll.Poll.{Poll}
@@ -20,7 +22,8 @@ use Rattle.gw_orders.specs.Marks.{Mark, Asked, Answered, marks, request_of}
 use Rattle.gw_orders.specs.Pending.{Pending, is_marked, is_select, pending}
 use Rattle.gw_orders.specs.Selections.{moment_at}
 use Rattle.gw_orders.specs.Talk.{Turn, next_number, talk}
-use Rattle.gw_orders.specs.Due.{clear_restart, disable, disabling_due, enable, enabling_due, event_poll, events_due, integrity_due, integrity_poll, recording_due, restart_due, time_due}
+use Rattle.gw_orders.specs.Due.{clear_restart, disable, disabling_due, enable, enabling_due, event_poll}
+use Rattle.gw_orders.specs.Due.{events_due, integrity_due, integrity_poll, recording_due, restart_due, time_due}
 
 -- what is due
 pub data Due : Type 0 where

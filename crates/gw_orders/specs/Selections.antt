@@ -2,7 +2,8 @@
 -- in place of any other. It ends by its client's deactivation or execute, and with its client's session. It stands for
 -- a time; then another client may select the control. When two commands ask for the same, and whether one is permitted,
 -- is said here apart from the words that the code is proved by.
-use Rattle.std.specs.Prelude.{ℕ, ◌-◌, ℤ, pos, negsuc, ◌*ℤ◌, int_div, int_le, Bool, false, ◌&&◌, ◌||◌, ◌==◌, is_none, nat_le, nat_lt, List, [], ◌∷◌, Option, Some, None, option_map, if◌then◌else◌}
+use Rattle.std.specs.Prelude.{ℕ, ◌-◌, ℤ, pos, negsuc, ◌*ℤ◌, int_div, int_le, Bool, false, ◌&&◌, ◌||◌, ◌==◌}
+use Rattle.std.specs.Prelude.{is_none, nat_le, nat_lt, List, [], ◌∷◌, Option, Some, None, option_map, if◌then◌else◌}
 use Rattle.std.specs.Ordering.{int_eq}
 use Rattle.gw_model.specs.First.{when}
 use Rattle.gw_entries.specs.declared.control.Control.{Control}

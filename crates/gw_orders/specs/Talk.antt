@@ -1,6 +1,7 @@
 -- The talk with an outstation since it came up, by steps and replies alone: the requests that were given, the fragments
 -- that were accepted, and the requests that were given up. Newest first; none while the outstation is down.
-use Rattle.std.specs.Prelude.{ℕ, ◌+◌, ◌%◌, ◌&&◌, ◌==◌, List, [], ◌∷◌, slice_index, Option, Some, None, option_and_then, option_map, if◌then◌else◌}
+use Rattle.std.specs.Prelude.{ℕ, ◌+◌, ◌%◌, ◌&&◌, ◌==◌, List, [], ◌∷◌, slice_index}
+use Rattle.std.specs.Prelude.{Option, Some, None, option_and_then, option_map, if◌then◌else◌}
 use Rattle.gw_map.specs.Settings.{Setup}
 use Rattle.dnp_app.specs.declared.request.Request.{Request}
 use Rattle.dnp_app.specs.Asking.{Asks, asking_of}

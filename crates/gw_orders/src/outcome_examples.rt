@@ -3,7 +3,8 @@ ghost use Rattle.std.specs.Prelude.{◌≡◌, ◌++◌, [], ◌∷◌, map, tru
 ghost use Rattle.gw_control.specs.Example.{setup};
 ghost use Rattle.gw_steps.specs.Example.{outstation_down, poll};
 ghost use Rattle.gw_orders.specs.BondExample.{made, operated, selected, sends, set};
-ghost use Rattle.gw_orders.specs.OutcomeExample.{joining, leaves, newly_due, sends_by, stops, switched, switching_first, three_orders, ticks};
+ghost use Rattle.gw_orders.specs.OutcomeExample.{joining, leaves, newly_due, sends_by, stops};
+ghost use Rattle.gw_orders.specs.OutcomeExample.{switched, switching_first, three_orders, ticks};
 ghost use Rattle.gw_orders.specs.Pending.{pending};
 
 /// What becomes of the first order.

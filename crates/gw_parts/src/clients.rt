@@ -1,9 +1,11 @@
 //! All clients, by their position, and the news for all of them.
-ghost use Rattle.std.specs.Prelude.{◌≡◌, ◌+◌, ◌<◌, ◌≤◌, ◌^◌, ℕ, ◌||◌, length, [], ◌∷◌, map, option_map, replicate, slice_get, true, if◌then◌else◌, IfOk, IfSome, OnErr, OnOk};
+ghost use Rattle.std.specs.Prelude.{◌≡◌, ◌+◌, ◌<◌, ◌≤◌, ◌^◌, ℕ, ◌||◌, length, [], ◌∷◌, map};
+ghost use Rattle.std.specs.Prelude.{option_map, replicate, slice_get, true, if◌then◌else◌, IfOk, IfSome, OnErr, OnOk};
 ghost use Rattle.std.specs.List.{AllByRecursion};
 ghost use Rattle.gw_model.specs.Places.{change};
 ghost use Rattle.gw_map.specs.Settings.{Setup, station_clocks};
-ghost use Rattle.gw_station.specs.Client.{client_after_close, client_after_tick, client_after_up, client_down, client_with_news, is_timed_out, is_up};
+ghost use Rattle.gw_station.specs.Client.{client_after_close, client_after_tick, client_after_up};
+ghost use Rattle.gw_station.specs.Client.{client_down, client_with_news, is_timed_out, is_up};
 ghost use Rattle.gw_station.specs.Answers.{client_told, CanBeTold};
 ghost use Rattle.gw_station.specs.Frames.{client_after_apdu, HasPlace};
 ghost use Rattle.gw_station.specs.Pump.{client_after_pump};

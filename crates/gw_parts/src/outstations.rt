@@ -1,9 +1,11 @@
 //! All outstations, by their position.
-ghost use Rattle.std.specs.Prelude.{◌≡◌, ◌*◌, ◌<◌, ◌≤◌, [], ◌∷◌, is_some, length, map, option_and_then, option_copied, option_map, slice_get, true, IfOk, IfSome, None, Some, ℕ};
+ghost use Rattle.std.specs.Prelude.{◌≡◌, ◌*◌, ◌<◌, ◌≤◌, [], ◌∷◌, is_some, length, map, option_and_then};
+ghost use Rattle.std.specs.Prelude.{option_copied, option_map, slice_get, true, IfOk, IfSome, None, Some, ℕ};
 ghost use Rattle.std.specs.Borrow.{sem};
 ghost use Rattle.std.specs.Option.{option_copied_mut};
 ghost use Rattle.gw_model.specs.Places.{change};
-ghost use Rattle.dnp_master.specs.Master.{ended_by_tick, is_ready, master_after_next, master_after_order, master_after_tick, master_after_up, master_down};
+ghost use Rattle.dnp_master.specs.Master.{ended_by_tick, is_ready, master_after_next, master_after_order};
+ghost use Rattle.dnp_master.specs.Master.{master_after_tick, master_after_up, master_down};
 ghost use Rattle.dnp_master.specs.Fragments.{master_after_fragment};
 ghost use Rattle.gw_parts.specs.Lending.{LendsMaster};
 ghost use Rattle.dnp_master.specs.Answers.{is_unanswered, operation_awaited};

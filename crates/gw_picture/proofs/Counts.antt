@@ -1,5 +1,6 @@
 -- News counted one report at a time, and what is shown at one place.
-use Rattle.std.proofs.Common.{◌≡◌, ℕ, ◌+◌, ◌≤◌, get_or, Bool, true, false, cond, ltb, List, [], ◌∷◌, ◌++◌, length, Option, Some, None, refl, sym, ap, ◌∙◌, append_assoc, inl, inr, arith}
+use Rattle.std.proofs.Common.{◌≡◌, ℕ, ◌+◌, ◌≤◌, get_or, Bool, true, false, cond, ltb, List, [], ◌∷◌, ◌++◌}
+use Rattle.std.proofs.Common.{length, Option, Some, None, refl, sym, ap, ◌∙◌, append_assoc, inl, inr, arith}
 use Rattle.std.specs.Prelude.{slice_get, option_map}
 use Rattle.std.proofs.lemmas.Bool.{cases_eq, ne_eqb, eq-eqb, ltb-false, ltb-true}
 use Rattle.std.proofs.lemmas.List.{append-nil, length-append}
@@ -8,9 +9,9 @@ use Rattle.gw_model.specs.declared.point.Report.{Report}
 use Rattle.gw_model.specs.declared.observation.Observation.{Observation}
 use Rattle.gw_model.specs.Clocks.{Clocks}
 use Rattle.gw_map.specs.Settings.{row_from}
-use Rattle.gw_translate.specs.Image.{image_of}
-use Rattle.gw_translate.specs.Image.{is_news_of}
-use Rattle.gw_picture.specs.Picture.{without_time, news_after, news_by_row, news_of_report, news_of, picture_by_row, picture_after_report, picture_after, observation_after_report, observation_after}
+use Rattle.gw_translate.specs.Image.{image_of, is_news_of}
+use Rattle.gw_picture.specs.Picture.{without_time, news_after, news_by_row, news_of_report, news_of, picture_by_row}
+use Rattle.gw_picture.specs.Picture.{picture_after_report, picture_after, observation_after_report, observation_after}
 use Rattle.gw_picture.proofs.Lists.{change-here, change-there, get_some, get_past}
 
 -- ---- one report is at most one news

@@ -20,8 +20,7 @@ use Rattle.gw_map.specs.Settings.{row_object}
 use Rattle.gw_model.proofs.Same.{same_value-true, same_quality-true}
 use Rattle.gw_model.specs.Clocks.{Clocks}
 use Rattle.gw_translate.specs.Quality.{quality_of}
-use Rattle.gw_translate.specs.Image.{image_of, observation_of, raw_image, stamp_image}
-use Rattle.gw_translate.specs.Image.{is_news_of}
+use Rattle.gw_translate.specs.Image.{image_of, observation_of, raw_image, stamp_image, is_news_of}
 use Rattle.gw_picture.specs.Picture.{news_after, without_time}
 use Rattle.gw_picture.proofs.Lists.{get_some}
 

@@ -1,5 +1,6 @@
 -- The picture that is kept is the picture of the log.
-use Rattle.std.proofs.Common.{◌≡◌, ℕ, suc, ◌+◌, ◌-◌, ◌≤◌, Bool, true, false, not, cond, List, [], ◌∷◌, ◌++◌, Option, Some, None, refl, sym, ap, subst, ◌∙◌, append_assoc, arith, inl, inr}
+use Rattle.std.proofs.Common.{◌≡◌, ℕ, suc, ◌+◌, ◌-◌, ◌≤◌, Bool, true, false, not, cond, List, [], ◌∷◌}
+use Rattle.std.proofs.Common.{◌++◌, Option, Some, None, refl, sym, ap, subst, ◌∙◌, append_assoc, arith, inl, inr}
 use Rattle.std.specs.Prelude.{slice_get}
 use Rattle.std.proofs.lemmas.Bool.{and_parts, cases_Bool, not-true}
 use Rattle.std.proofs.lemmas.List.{append-nil}
@@ -13,12 +14,12 @@ use Rattle.gw_model.specs.Keys.{object_of, same_key, same_object}
 use Rattle.gw_model.proofs.Same.{eq-same_object, other_object, same_object-true}
 use Rattle.gw_entries.specs.declared.control.Control.{Control}
 use Rattle.gw_map.specs.Settings.{row_from, row_object, HasSingleAddresses}
-use Rattle.gw_translate.specs.Image.{image_of}
-use Rattle.gw_translate.specs.Image.{is_news_of}
+use Rattle.gw_translate.specs.Image.{image_of, is_news_of}
 use Rattle.gw_model.specs.Places.{change}
 use Rattle.gw_model.specs.Clocks.{Clocks}
 use Rattle.gw_picture.specs.Opening.{opening}
-use Rattle.gw_picture.specs.Picture.{without_time, news_by_row, news_of_report, picture_by_row, picture_after_report, news_of, picture_after}
+use Rattle.gw_picture.specs.Picture.{without_time, news_by_row, news_of_report, picture_by_row}
+use Rattle.gw_picture.specs.Picture.{picture_after_report, news_of, picture_after}
 use Rattle.gw_picture.specs.Log.{last_observation, picture_of}
 use Rattle.gw_picture.proofs.Addresses.{is_fresh, is_single, is_single-true}
 use Rattle.gw_picture.proofs.Lists.{some_is, change-same}

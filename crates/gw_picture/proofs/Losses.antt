@@ -1,6 +1,7 @@
 -- A loss: the row at each place in turn; what it leaves of a picture;
 -- and the picture after it is that of the log with it.
-use Rattle.std.proofs.Common.{◌≡◌, ℕ, zero, suc, ◌+◌, ◌<◌, ◌≤◌, Bool, true, false, not, ◌&&◌, cond, eqb, List, [], ◌∷◌, ◌++◌, map, length, take, drop, Option, Some, None, refl, sym, ap, subst, ◌∙◌, arith}
+use Rattle.std.proofs.Common.{◌≡◌, ℕ, zero, suc, ◌+◌, ◌<◌, ◌≤◌, Bool, true, false, not, ◌&&◌, cond, eqb, List, []}
+use Rattle.std.proofs.Common.{◌∷◌, ◌++◌, map, length, take, drop, Option, Some, None, refl, sym, ap, subst, ◌∙◌, arith}
 use Rattle.std.specs.Prelude.{slice_get, option_map}
 use Rattle.std.specs.List.{AllByRecursion}
 use Rattle.std.proofs.lemmas.Bool.{and_parts, and_right, not-true, not-false, not_from_true, eq-eqb, ne_eqb}
@@ -21,7 +22,9 @@ use Rattle.gw_picture.specs.Opening.{opening}
 use Rattle.gw_picture.specs.Picture.{without_time}
 use Rattle.gw_picture.specs.Log.{last_observation, picture_of}
 use Rattle.gw_picture.specs.Rows.{IsPictureOf}
-use Rattle.gw_picture.specs.Loss.{quality_lost, tells_loss, lost, is_lost_with, losses_of_row, shown_after_loss, losses_of, picture_after_loss, losses_of_both, shown_at_loss, losses_at, picture_losing_at}
+use Rattle.gw_picture.specs.Loss.{quality_lost, tells_loss, lost, is_lost_with, losses_of_row}
+use Rattle.gw_picture.specs.Loss.{shown_after_loss, losses_of, picture_after_loss}
+use Rattle.gw_picture.specs.Loss.{losses_of_both, shown_at_loss, losses_at, picture_losing_at}
 use Rattle.gw_picture.proofs.Lists.{some_is, change-still, change-by, change-length, change-behind}
 use Rattle.gw_picture.proofs.Addresses.{is_fresh, is_single, is_single-true}
 use Rattle.gw_picture.proofs.Logs.{shown_by, last_observation-object}

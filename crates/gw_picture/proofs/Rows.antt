@@ -1,5 +1,6 @@
 -- A picture of rows stays one, and a report changes the place of its row alone.
-use Rattle.std.proofs.Common.{◌≡◌, ℕ, zero, suc, ◌+◌, ◌-◌, List, [], ◌∷◌, map, Option, Some, None, refl, sym, ap, subst, ◌∙◌, inl, inr, arith}
+use Rattle.std.proofs.Common.{◌≡◌, ℕ, zero, suc, ◌+◌, ◌-◌, List, [], ◌∷◌, map, Option}
+use Rattle.std.proofs.Common.{Some, None, refl, sym, ap, subst, ◌∙◌, inl, inr, arith}
 use Rattle.std.specs.Prelude.{slice_get, option_map}
 use Rattle.std.specs.List.{AllByRecursion}
 use Rattle.std.proofs.lemmas.Bool.{cases_Bool}
@@ -11,8 +12,7 @@ use Rattle.gw_model.specs.declared.observation.Observation.{Observation}
 use Rattle.gw_model.specs.declared.point.ObjectKey.{ObjectKey}
 use Rattle.gw_model.specs.Keys.{object_of, same_key}
 use Rattle.gw_map.specs.Settings.{row_from, row_object}
-use Rattle.gw_translate.specs.Image.{image_of}
-use Rattle.gw_translate.specs.Image.{is_news_of}
+use Rattle.gw_translate.specs.Image.{image_of, is_news_of}
 use Rattle.gw_model.specs.Places.{change}
 use Rattle.gw_model.specs.Clocks.{Clocks}
 use Rattle.gw_picture.specs.Opening.{opening}

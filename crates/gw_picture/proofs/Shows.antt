@@ -1,5 +1,6 @@
 -- What is shown can be sent: at first, and after a report and a loss.
-use Rattle.std.proofs.Common.{◌≡◌, ℕ, zero, suc, Bool, true, false, cond, List, [], ◌∷◌, map, Option, Some, None, refl, sym, subst, arith}
+use Rattle.std.proofs.Common.{◌≡◌, ℕ, zero, suc, Bool, true, false, cond, List, []}
+use Rattle.std.proofs.Common.{◌∷◌, map, Option, Some, None, refl, sym, subst, arith}
 use Rattle.std.specs.Prelude.{pos, slice_get, IsTrue, IfSome}
 use Rattle.std.specs.List.{AllByRecursion}
 use Rattle.std.specs.Option.{option_to_list}
@@ -15,7 +16,8 @@ use Rattle.gw_model.specs.Places.{change}
 use Rattle.gw_model.specs.Clocks.{Clocks}
 use Rattle.gw_picture.specs.Opening.{opening, value_at_first, quality_at_first}
 use Rattle.gw_picture.specs.Picture.{without_time}
-use Rattle.gw_picture.specs.Loss.{quality_lost, lost, is_lost_with, losses_of_row, shown_after_loss, losses_of_both, shown_at_loss, losses_at, picture_losing_at, picture_after_loss}
+use Rattle.gw_picture.specs.Loss.{quality_lost, lost, is_lost_with, losses_of_row, shown_after_loss}
+use Rattle.gw_picture.specs.Loss.{losses_of_both, shown_at_loss, losses_at, picture_losing_at, picture_after_loss}
 use Rattle.gw_picture.specs.Shown.{IsShown}
 use Rattle.gw_picture.proofs.Rows.{all_get, all_change}
 

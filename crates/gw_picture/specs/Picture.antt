@@ -6,8 +6,7 @@ use Rattle.gw_model.specs.declared.point.Stamp.TheVariants.{Untimed}
 use Rattle.gw_entries.specs.declared.row.Row.{Row}
 use Rattle.gw_model.specs.declared.observation.Observation.{Observation}
 use Rattle.gw_map.specs.Settings.{row_from}
-use Rattle.gw_translate.specs.Image.{image_of}
-use Rattle.gw_translate.specs.Image.{is_news_of}
+use Rattle.gw_translate.specs.Image.{image_of, is_news_of}
 use Rattle.gw_model.specs.Places.{change}
 use Rattle.gw_model.specs.Clocks.{Clocks}
 

@@ -3,8 +3,10 @@ ghost use Rattle.std.specs.Prelude.{◌≡◌, pos, [], ◌∷◌, map, true, fa
 ghost use Rattle.gw_model.specs.declared.point.Stamp.TheVariants.{At};
 ghost use Rattle.gw_model.specs.declared.observation.Value.TheVariants.{Single, Double, Scaled, Word, Total};
 ghost use Rattle.gw_model.specs.Clocks.{utc};
-ghost use Rattle.gw_translate.specs.Example.{binary, output, static_value, timed_event, double_row, word_row, counter_row, observation, good, invalid, overflow};
-ghost use Rattle.gw_picture.specs.Example.{analog_value, forced_and_over, not_topical, not_valid, observation_at, picture_with, rolled_over, rows, rows_of_two, substituted, unknown};
+ghost use Rattle.gw_translate.specs.Example.{binary, output, static_value, timed_event, double_row};
+ghost use Rattle.gw_translate.specs.Example.{word_row, counter_row, observation, good, invalid, overflow};
+ghost use Rattle.gw_picture.specs.Example.{analog_value, forced_and_over, not_topical, not_valid, observation_at};
+ghost use Rattle.gw_picture.specs.Example.{picture_with, rolled_over, rows, rows_of_two, substituted, unknown};
 ghost use Rattle.gw_picture.specs.Log.{picture_of};
 ghost use Rattle.gw_picture.specs.Loss.{losses_of, losses_of_row, picture_after_loss};
 ghost use Rattle.gw_picture.specs.Picture.{news_of, picture_after};

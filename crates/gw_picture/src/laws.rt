@@ -1,5 +1,6 @@
 //! What holds of every picture.
-ghost use Rattle.std.specs.Prelude.{◌≡◌, ◌≢◌, ◌≤◌, ◌++◌, ℕ, List, [], ◌∷◌, length, map, slice_get, Some, IsTrue};
+ghost use Rattle.std.specs.Prelude.{◌≡◌, ◌≢◌, ◌≤◌, ◌++◌, ℕ, List, []};
+ghost use Rattle.std.specs.Prelude.{◌∷◌, length, map, slice_get, Some, IsTrue};
 ghost use Rattle.gw_model.specs.declared.observation.Observation.{Observation};
 ghost use Rattle.gw_model.specs.declared.point.Report.{Report};
 ghost use Rattle.gw_model.specs.Clocks.{Clocks};

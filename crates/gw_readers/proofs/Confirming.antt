@@ -1,5 +1,6 @@
 -- What the reader of an outstation steps and confirms, one after another.
-use Rattle.std.proofs.Common.{◌≡◌, ℕ, Bool, false, not, ◌||◌, List, [], ◌∷◌, ◌++◌, Result, refl, sym, ap, subst, ◌∙◌, append_assoc}
+use Rattle.std.proofs.Common.{◌≡◌, ℕ, Bool, false, not, ◌||◌, List, [], ◌∷◌, ◌++◌}
+use Rattle.std.proofs.Common.{Result, refl, sym, ap, subst, ◌∙◌, append_assoc}
 use Rattle.std.proofs.lemmas.List.{append-nil}
 use Rattle.dnp_app.specs.Response.{Fragment}
 use Rattle.gw_map.specs.Settings.{Setup}
@@ -16,7 +17,8 @@ use Rattle.gw_threads.specs.Calls.{Call, given_by}
 use Rattle.gw_threads.specs.Sends.{TellsOutstationLoss}
 use Rattle.gw_threads.proofs.Calling.{calls_own, calls_then, given_then, all-append}
 use Rattle.gw_threads.proofs.Requesting.{cuts_then, or_false, sends_then}
-use Rattle.gw_readers.specs.Confirms.{Confirms, IsRead, IsReaders, ReadsAll, confirmation_given, confirmation_in, confirmation_sent, confirmations_sent}
+use Rattle.gw_readers.specs.Confirms.{Confirms, IsRead, IsReaders, ReadsAll, confirmation_given}
+use Rattle.gw_readers.specs.Confirms.{confirmation_in, confirmation_sent, confirmations_sent}
 
 sent_then : (a b : List Sending) → confirmations_sent (a ++ b) ≡ confirmations_sent a ++ confirmations_sent b
 sent_then [] b = refl

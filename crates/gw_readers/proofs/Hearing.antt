@@ -1,5 +1,6 @@
 -- The responses that the octets of an outstation say, piece after piece.
-use Rattle.std.proofs.Common.{◌≡◌, ℕ, List, [], ◌∷◌, ◌++◌, Option, Some, None, Result, Ok, Err, refl, sym, ap, subst, ◌∙◌, ◌⊎◌, inl, inr, append_assoc}
+use Rattle.std.proofs.Common.{◌≡◌, ℕ, List, [], ◌∷◌, ◌++◌, Option, Some, None, Result, Ok}
+use Rattle.std.proofs.Common.{Err, refl, sym, ap, subst, ◌∙◌, ◌⊎◌, inl, inr, append_assoc}
 use Rattle.std.specs.Prelude.{IfNone, filter_map, option_to_list}
 use Rattle.std.specs.List.{cons_option}
 use Rattle.std.specs.Result.{result_ok}
@@ -31,7 +32,8 @@ use Rattle.gw_ends.proofs.Runs.{appends-more}
 use Rattle.gw_threads.specs.Calls.{Call, given_by}
 use Rattle.gw_threads.specs.Sends.{TellsOutstationLoss}
 use Rattle.gw_threads.proofs.Calling.{calls_then, given_then}
-use Rattle.gw_readers.specs.Heard.{Hears, HearsFrames, HearsOctets, HearsOf, HearsPiece, IsDrained, IsSaid, MayLeave, response_in, responses_completed}
+use Rattle.gw_readers.specs.Heard.{Hears, HearsFrames, HearsOctets, HearsOf, HearsPiece}
+use Rattle.gw_readers.specs.Heard.{IsDrained, IsSaid, MayLeave, response_in, responses_completed}
 use Rattle.gw_readers.proofs.Framing.{nothing}
 
 -- ---- what is said, and what may be left of it

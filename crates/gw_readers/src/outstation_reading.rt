@@ -1,5 +1,6 @@
 //! The reader of an outstation.
-ghost use Rattle.std.specs.Prelude.{◌≡◌, ◌≤◌, ◌||◌, [], ◌∷◌, ◌++◌, length, option_to_list, Err, IfSome, MatchOption, Some};
+ghost use Rattle.std.specs.Prelude.{◌≡◌, ◌≤◌, ◌||◌, [], ◌∷◌, ◌++◌, length};
+ghost use Rattle.std.specs.Prelude.{option_to_list, Err, IfSome, MatchOption, Some};
 ghost use Rattle.dnp_link.specs.FrameContent.{content};
 ghost use Rattle.dnp_receive.specs.Delivery.{response_at};
 ghost use Rattle.gw_ends.specs.Ends.{is_read_fault, is_write_fault, IsOfFrames, IsOfSilence, MayEndBetween};

@@ -1,5 +1,6 @@
 //! The recorder.
-ghost use Rattle.std.specs.Prelude.{◌≡◌, ◌+◌, ◌<◌, ◌^◌, ◌↔◌, Some, true, false, IfOk, IfSome, IsSome, OnErr, OnOk, length, option_map, replicate, slice_index};
+ghost use Rattle.std.specs.Prelude.{◌≡◌, ◌+◌, ◌<◌, ◌^◌, ◌↔◌, Some, true, false, IfOk, IfSome};
+ghost use Rattle.std.specs.Prelude.{IsSome, OnErr, OnOk, length, option_map, replicate, slice_index};
 ghost use Rattle.gw_record.specs.Recorded.{IsNumbered};
 ghost use Rattle.gw_record.specs.Recording.{is_tape_full, noted, recording_off, rolled, tape_on, tape_with, HasRoom};
 

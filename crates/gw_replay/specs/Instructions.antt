@@ -1,5 +1,6 @@
 -- What a line of a replay asks for. O and C are decimal numbers of 8 bits, M of 64 bits, HEX is octets in hexadecimal.
-use Rattle.std.specs.Prelude.{◌≡◌, ◌⊎◌, ℕ, ◌+◌, ◌^◌, ◌==◌, List, take, drop, position, codes, Option, Some, None, Result, Ok, Err, option_map, option_and_then, if◌then◌else◌, MatchBool}
+use Rattle.std.specs.Prelude.{◌≡◌, ◌⊎◌, ℕ, ◌+◌, ◌^◌, ◌==◌, List, take, drop, position, codes, Option, Some}
+use Rattle.std.specs.Prelude.{None, Result, Ok, Err, option_map, option_and_then, if◌then◌else◌, MatchBool}
 use Rattle.std.specs.Str.{bytes_eq}
 use Rattle.dnp_app.specs.declared.fault.AppFault.{AppFault}
 use Rattle.dnp_app.specs.declared.fault.AppFault.TheVariants.{Memory}

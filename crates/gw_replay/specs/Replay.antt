@@ -1,5 +1,6 @@
 -- What comes of an instruction of a replay, of a line, and of all lines.
-use Rattle.std.specs.Prelude.{◌≡◌, ℕ, Bool, true, false, not, nat_lt, List, [], ◌∷◌, ◌++◌, length, codes, Option, Some, None, slice_get, MatchBool}
+use Rattle.std.specs.Prelude.{◌≡◌, ℕ, Bool, true, false, not, nat_lt, List, [], ◌∷◌, ◌++◌}
+use Rattle.std.specs.Prelude.{length, codes, Option, Some, None, slice_get, MatchBool}
 use Rattle.std.specs.Fmt.{decimal}
 use Rattle.gw_map.specs.Settings.{Setup}
 use Rattle.gw_steps.specs.State.{Hub, at_first}

@@ -1,6 +1,8 @@
 //! The lines of a replay.
 ghost use Rattle.std.specs.Prelude.{◌≡◌, ◌≤◌, IfOk, IfSome, length, option_map};
-ghost use Rattle.gw_replay.specs.Instructions.{IsFragmentRead, IsFrameRead, IsRead, IsReadWith, first_word, numbers_and_octets, rest_of, short_with, space_in, paired_with, step_at, step_with, three_numbers, two_numbers};
+ghost use Rattle.gw_replay.specs.Instructions.{IsFragmentRead, IsFrameRead, IsRead, IsReadWith, first_word};
+ghost use Rattle.gw_replay.specs.Instructions.{numbers_and_octets, rest_of, short_with, space_in};
+ghost use Rattle.gw_replay.specs.Instructions.{paired_with, step_at, step_with, three_numbers, two_numbers};
 
 use crate::frame::read_apdu;
 use crate::refusal::StepRefusal;

@@ -1,6 +1,7 @@
 //! The texts of replies.
 ghost use Rattle.std.specs.Prelude.{◌≡◌, ◌<◌, ◌++◌, OnOk};
-ghost use Rattle.gw_replay.specs.Replies.{client_word, closed_words, fault_name, ignored_name, reply_line, reply_words, verdict_words, why_name, with_confirm};
+ghost use Rattle.gw_replay.specs.Replies.{client_word, closed_words, fault_name, ignored_name};
+ghost use Rattle.gw_replay.specs.Replies.{reply_line, reply_words, verdict_words, why_name, with_confirm};
 
 use gw_hub::{Ignored, Reply, StepFault, Verdict, Why};
 use gw_model::Memory;

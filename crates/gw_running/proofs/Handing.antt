@@ -1,5 +1,6 @@
 -- Requests that are handed over, by what became of orders.
-use Rattle.std.proofs.Common.{◌≡◌, ℕ, Bool, true, false, cond, ◌==◌, List, [], ◌∷◌, ◌++◌, Option, Some, None, Result, Ok, Err, refl, sym, ap, subst, ◌∙◌}
+use Rattle.std.proofs.Common.{◌≡◌, ℕ, Bool, true, false, cond, ◌==◌, List, [], ◌∷◌, ◌++◌}
+use Rattle.std.proofs.Common.{Option, Some, None, Result, Ok, Err, refl, sym, ap, subst, ◌∙◌}
 use Rattle.std.specs.Prelude.{filter}
 use Rattle.std.specs.List.{AllByRecursion}
 use Rattle.std.specs.Option.{option_to_list}
@@ -22,7 +23,8 @@ use Rattle.gw_steps.specs.declared.step.StepFault.{StepFault}
 use Rattle.gw_steps.specs.Runs.{AtEach, Entry}
 use Rattle.gw_orders.specs.Bonds.{Bonds, IsBonded, IsBound, IsBoundTo, MayAsk, is_control_request, operation_in}
 use Rattle.gw_orders.specs.Executes.{Execute, executes}
-use Rattle.gw_orders.specs.Marks.{Mark, Asked, Answered, answer_in, given_in, last_request, mark_answered, mark_answering, mark_asked, marks, names, took}
+use Rattle.gw_orders.specs.Marks.{Mark, Asked, Answered, answer_in, given_in, last_request}
+use Rattle.gw_orders.specs.Marks.{mark_answered, mark_answering, mark_asked, marks, names, took}
 use Rattle.gw_steps.proofs.Running.{last_place}
 use Rattle.gw_shared.specs.Reached.{IsCourse, entries_of, entry}
 use Rattle.gw_shared.specs.Turn.{Pass}

@@ -1,5 +1,6 @@
 -- The numbers of calls, and the one history.
-use Rattle.std.proofs.Common.{◌≡◌, ℕ, ◌+◌, inl, inr, List, [], ◌∷◌, length, take, Result, Ok, refl, sym, ap, ◌∙◌, arith}
+use Rattle.std.proofs.Common.{◌≡◌, ℕ, ◌+◌, inl, inr, List, [], ◌∷◌, length}
+use Rattle.std.proofs.Common.{take, Result, Ok, refl, sym, ap, ◌∙◌, arith}
 use Rattle.gw_map.specs.Settings.{Setup}
 use Rattle.gw_steps.specs.declared.step.Reply.{Reply}
 use Rattle.gw_steps.specs.declared.step.Step.{Step}

@@ -1,5 +1,6 @@
 -- When a run of pumps may go on, and a tape of two actors' calls.
-use Rattle.std.proofs.Common.{◌≡◌, ℕ, zero, suc, ◌+◌, ◌<◌, ◌≤◌, ◌∙◌, inl, inr, false, List, [], ◌∷◌, ◌++◌, Ok, Some, ap, refl, sym, arith}
+use Rattle.std.proofs.Common.{◌≡◌, ℕ, zero, suc, ◌+◌, ◌<◌, ◌≤◌, ◌∙◌, inl, inr}
+use Rattle.std.proofs.Common.{false, List, [], ◌∷◌, ◌++◌, Ok, Some, ap, refl, sym, arith}
 use Rattle.std.proofs.lemmas.Bool.{ne_eqb}
 use Rattle.gw_steps.specs.Runs.{Entry}
 use Rattle.gw_steps.specs.State.{Hub}

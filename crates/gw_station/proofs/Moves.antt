@@ -1,5 +1,6 @@
 -- What is put out first, and what is left.
-use Rattle.std.proofs.Common.{◌≡◌, ℕ, zero, suc, ◌-◌, ◌≤◌, Bool, true, false, cond, List, [], ◌∷◌, ◌++◌, map, length, take, drop, Option, Some, None, refl, sym, ap, subst, ◌∙◌, arith, if◌then◌else◌}
+use Rattle.std.proofs.Common.{◌≡◌, ℕ, zero, suc, ◌-◌, ◌≤◌, Bool, true, false, cond, List, [], ◌∷◌, ◌++◌, map}
+use Rattle.std.proofs.Common.{length, take, drop, Option, Some, None, refl, sym, ap, subst, ◌∙◌, arith, if◌then◌else◌}
 use Rattle.std.specs.Prelude.{◌&&◌, option_map, slice_get, IfSome}
 use Rattle.std.proofs.lemmas.List.{append-nil, length-take}
 use Rattle.gw_model.specs.First.{when, first_of}
@@ -21,7 +22,8 @@ use Rattle.gw_station.specs.Pump.{has_room, line, content_of, offered, given, to
 use Rattle.gw_station.specs.Quiet.{IsQuiet}
 use Rattle.gw_station.proofs.All.{all-first, all-given}
 use Rattle.gw_station.proofs.Line.{line_so}
-use Rattle.gw_station.proofs.Front.{line_of, split_anywhere, front_goes, drop_mapped, bare_line, news_together, news_first, parts_same, parts_within, part_first}
+use Rattle.gw_station.proofs.Front.{line_of, split_anywhere, front_goes, drop_mapped, bare_line}
+use Rattle.gw_station.proofs.Front.{news_together, news_first, parts_same, parts_within, part_first}
 
 -- ---- nothing is put out
 

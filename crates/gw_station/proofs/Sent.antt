@@ -14,7 +14,8 @@ use Rattle.gw_station.specs.declared.sending.Sending.{Sending}
 use Rattle.gw_station.specs.declared.sending.Sending.TheVariants as sendings
 use Rattle.gw_station.specs.Client.{Client}
 use Rattle.gw_station.specs.Kept.{news_next, parts_octets, parts_together}
-use Rattle.gw_station.specs.Pump.{line, together, packed_information, part_octets, content_of, client_without_news, client_without_parts, client_with_sent, IsNext}
+use Rattle.gw_station.specs.Pump.{line, together, packed_information, part_octets, content_of}
+use Rattle.gw_station.specs.Pump.{client_without_news, client_without_parts, client_with_sent, IsNext}
 use Rattle.gw_station.proofs.Front.{news_first, news_together, part_first, parts_same, rows_same}
 
 -- ---- news

@@ -1,6 +1,7 @@
 -- Whatever becomes of a client, what waits can be sent and is no more than may wait, and the steps and news count no
 -- fewer than its I formats and what it dropped.
-use Rattle.std.proofs.Common.{◌≡◌, ℕ, ◌+◌, ◌-◌, ◌<◌, ◌≤◌, Bool, true, false, List, [], ◌∷◌, ◌++◌, drop, length, map, Option, Some, None, refl, sym, ap, subst, ◌∙◌, arith, inl, inr}
+use Rattle.std.proofs.Common.{◌≡◌, ℕ, ◌+◌, ◌-◌, ◌<◌, ◌≤◌, Bool, true, false, List, [], ◌∷◌, ◌++◌}
+use Rattle.std.proofs.Common.{drop, length, map, Option, Some, None, refl, sym, ap, subst, ◌∙◌, arith, inl, inr}
 use Rattle.std.proofs.lemmas.List.{length-append, length-drop}
 use Rattle.std.specs.Prelude.{IfSome}
 use Rattle.std.specs.List.{AllByRecursion}
@@ -21,7 +22,9 @@ use Rattle.iec_command.specs.Commands.{IsWhole}
 use Rattle.iec_window.specs.declared.limits.Limits.{Limits}
 use Rattle.iec_window.specs.Counts.{WindowCounts}
 use Rattle.iec_window.specs.Sequence.{is_right_send, is_right_receive, new_acknowledgements}
-use Rattle.iec_window.specs.Steps.{counts_at_start, counts_after_right_s, counts_after_right_i, counts_after_s, counts_after_i, counts_after_sending_s, counts_after_sending_i, counts_after_sending_test}
+use Rattle.iec_window.specs.Steps.{counts_at_start, counts_after_right_s, counts_after_right_i}
+use Rattle.iec_window.specs.Steps.{counts_after_s, counts_after_i, counts_after_sending_s}
+use Rattle.iec_window.specs.Steps.{counts_after_sending_i, counts_after_sending_test}
 use Rattle.gw_map.specs.Settings.{Setup, station_clocks}
 use Rattle.gw_station.specs.declared.event.Said.{Said}
 use Rattle.gw_answers.specs.declared.outgoing.AsduAnswer.{AsduAnswer}
@@ -33,9 +36,13 @@ use Rattle.gw_station.specs.declared.sending.Sending.{Sending}
 use Rattle.gw_station.specs.declared.sending.Sending.TheVariants as sendings
 use Rattle.gw_station.specs.declared.event.Said.TheVariants as saids
 use Rattle.gw_station.specs.Answers.{client_judging, client_told, held_with, places, terminated, told, CanBeTold}
-use Rattle.gw_station.specs.Client.{Client, is_started, queue_with, overflow, is_timed_out, client_anew, client_with_news, client_after_close, client_after_up, client_after_tick}
-use Rattle.gw_station.specs.Frames.{floods, judged_asdu, close_of, confirmations_with, window_with_signal, client_with_session, client_with_signal, client_taking, client_by, client_after_apdu}
-use Rattle.gw_station.specs.Pump.{line, offered, together, client_without_news, client_without_parts, client_by_offer, client_after_pump, IsRoomy}
+use Rattle.gw_station.specs.Client.{Client, is_started, queue_with, overflow, is_timed_out, client_anew}
+use Rattle.gw_station.specs.Client.{client_with_news, client_after_close, client_after_up, client_after_tick}
+use Rattle.gw_station.specs.Frames.{floods, judged_asdu, close_of, confirmations_with}
+use Rattle.gw_station.specs.Frames.{window_with_signal, client_with_session, client_with_signal}
+use Rattle.gw_station.specs.Frames.{client_taking, client_by, client_after_apdu}
+use Rattle.gw_station.specs.Pump.{line, offered, together, client_without_news}
+use Rattle.gw_station.specs.Pump.{client_without_parts, client_by_offer, client_after_pump, IsRoomy}
 use Rattle.gw_station.specs.Sound.{CanAnswer, IsSoundClient, IsSoundWindow}
 use Rattle.gw_station.proofs.All.{all-append, all-drop}
 use Rattle.gw_station.proofs.Places.{answers_few, confirmations_few, not_flooded}

@@ -1,5 +1,6 @@
 -- What a station keeps of the news that may go next, and of the answer to an interrogation.
-use Rattle.std.specs.Prelude.{ℕ, ◌-◌, ◌<◌, ◌==◌, ◌&&◌, List, [], ◌∷◌, drop, length, slice_get, take, Option, Some, None, IsSomeAnd, if◌then◌else◌}
+use Rattle.std.specs.Prelude.{ℕ, ◌-◌, ◌<◌, ◌==◌, ◌&&◌, List, [], ◌∷◌, drop, length}
+use Rattle.std.specs.Prelude.{slice_get, take, Option, Some, None, IsSomeAnd, if◌then◌else◌}
 use Rattle.gw_model.specs.declared.observation.Observation.{Observation}
 use Rattle.gw_model.specs.Clocks.{Clocks}
 use Rattle.iec_asdu.specs.Packing.{taken_of}

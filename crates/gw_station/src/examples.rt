@@ -8,7 +8,8 @@ ghost use Rattle.iec_window.specs.Examples.{usual};
 ghost use Rattle.gw_station.specs.declared.client.Stage.TheVariants.{Down, Started, Stopped};
 ghost use Rattle.gw_station.specs.declared.event.Event.TheVariants.{Closed, Taken};
 ghost use Rattle.gw_station.specs.declared.event.Why.TheVariants.{Flooded, Malformed, NotStarted, Sequence};
-ghost use Rattle.gw_station.specs.Client.{client_after_close, client_after_tick, client_after_up, client_down, client_with_news, is_timed_out};
+ghost use Rattle.gw_station.specs.Client.{client_after_close, client_after_tick, client_after_up};
+ghost use Rattle.gw_station.specs.Client.{client_down, client_with_news, is_timed_out};
 ghost use Rattle.gw_station.specs.Frames.{begins, client_after_apdu, close_of, event_of};
 ghost use Rattle.gw_station.specs.Pump.{given};
 ghost use Rattle.iec_command.specs.declared.command.Action.{Action};
@@ -17,7 +18,11 @@ ghost use Rattle.gw_judge.specs.Example.{of_none, setup};
 ghost use Rattle.gw_answers.specs.Outgoing.{command_with};
 ghost use Rattle.gw_station.specs.declared.event.Said.TheVariants as said;
 ghost use Rattle.gw_station.specs.Answers.{held_with, told};
-ghost use Rattle.gw_station.specs.Example.{acknowledged, all_asked, command, connected, cut, execute, header_alone, interrogated, interrogation, interrogation_of_all, interrogation_of_second, reading, reads, pushed_out, second_on, narrow, narrow_full, narrowest, overflown, pumped, started, started_from, switched_off, switched_on, taking, taking_in, taking_of_two, tested, waiting, execute_unknown};
+ghost use Rattle.gw_station.specs.Example.{acknowledged, all_asked, command, connected, cut, execute, header_alone};
+ghost use Rattle.gw_station.specs.Example.{interrogated, interrogation, interrogation_of_all, interrogation_of_second};
+ghost use Rattle.gw_station.specs.Example.{reading, reads, pushed_out, second_on, narrow, narrow_full, narrowest};
+ghost use Rattle.gw_station.specs.Example.{overflown, pumped, started, started_from, switched_off, switched_on};
+ghost use Rattle.gw_station.specs.Example.{taking, taking_in, taking_of_two, tested, waiting, execute_unknown};
 
 /// STARTDT, STOPDT and TESTFR.
 #[tactic(auto, unfolding(iec_asdu::specs::Spelling::list_spelling, iec_asdu::specs::Packing::packed_spelling, iec_asdu::specs::Packing::taken_of, iec_asdu::specs::Packing::is_in_sequence, iec_asdu::specs::Packing::in_sequence_count, iec_asdu::specs::Packing::apart_count, iec_asdu::specs::Packing::alike_count, iec_asdu::specs::Packing::consecutive_count))]

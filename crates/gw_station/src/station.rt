@@ -1,5 +1,7 @@
 //! What is known of one client.
-ghost use Rattle.std.specs.Prelude.{◌≡◌, ◌<◌, ◌≤◌, ◌-◌, ◌+◌, ◌^◌, ℕ, true, false, None, Some, [], ◌∷◌, ◌++◌, ◌&&◌, drop, is_some, length, nat_le, option_map, slice_get, take, IfOk, IfSome, OnErr, OnOk};
+ghost use Rattle.std.specs.Prelude.{◌≡◌, ◌<◌, ◌≤◌, ◌-◌, ◌+◌, ◌^◌, ℕ, true, false, None};
+ghost use Rattle.std.specs.Prelude.{Some, [], ◌∷◌, ◌++◌, ◌&&◌, drop, is_some, length, nat_le};
+ghost use Rattle.std.specs.Prelude.{option_map, slice_get, take, IfOk, IfSome, OnErr, OnOk};
 ghost use Rattle.std.specs.List.{AllByRecursion};
 ghost use Rattle.iec_apci.specs.Apdu.{Information};
 ghost use Rattle.iec_apci.specs.Buffer.{buffer_of};
@@ -9,10 +11,15 @@ ghost use Rattle.iec_window.specs.Steps.{counts_after_sending_i};
 ghost use Rattle.gw_answers.specs.declared.outgoing.AsduAnswer.TheVariants.{Made};
 ghost use Rattle.gw_station.specs.Answers.{client_judging, client_told, is_asking, is_pending, places, places_taken, CanBeTold};
 ghost use Rattle.gw_station.specs.Client.{client_after_tick, close_by_tick, is_started, is_timed_out, is_up, most_confirmations};
-ghost use Rattle.gw_station.specs.Frames.{asks, begins, client_after_apdu, client_with_session, client_with_signal, closes_judged, event_by, event_of, floods, given_command, judged_asdu, overfills, HasPlace};
+ghost use Rattle.gw_station.specs.Frames.{asks, begins, client_after_apdu, client_with_session};
+ghost use Rattle.gw_station.specs.Frames.{client_with_signal, closes_judged, event_by, event_of};
+ghost use Rattle.gw_station.specs.Frames.{floods, given_command, judged_asdu, overfills, HasPlace};
 ghost use Rattle.gw_station.specs.Kept.{news_next, parts_octets, parts_together};
-ghost use Rattle.gw_station.specs.Pump.{client_after_pump, client_with_sent, client_without_news, client_without_parts, content_of, given, information, information_offered, line, offered, packed_information, IsNext, IsRoomy};
-ghost use Rattle.gw_station.specs.Ring.{alone, dropped_in, older_in, seat_after_close, seat_after_up, seat_down, seen, waiting_in, Ring, Stands};
+ghost use Rattle.gw_station.specs.Pump.{client_after_pump, client_with_sent, client_without_news};
+ghost use Rattle.gw_station.specs.Pump.{client_without_parts, content_of, given, information};
+ghost use Rattle.gw_station.specs.Pump.{information_offered, line, offered, packed_information, IsNext, IsRoomy};
+ghost use Rattle.gw_station.specs.Ring.{alone, dropped_in, older_in, seat_after_close};
+ghost use Rattle.gw_station.specs.Ring.{seat_after_up, seat_down, seen, waiting_in, Ring, Stands};
 ghost use Rattle.gw_station.specs.Sound.{CanAnswer, IsReturnableSending, IsWholeEvent};
 ghost use Rattle.gw_answers.specs.Meaning.{IsSendable};
 ghost use Rattle.iec_asdu.specs.Packing.{taken_of};

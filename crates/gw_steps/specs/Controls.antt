@@ -1,5 +1,6 @@
 -- What the controls' part of the state says of commands, and what becomes of orders.
-use Rattle.std.specs.Prelude.{ℕ, zero, suc, Bool, false, List, [], ◌∷◌, ◌++◌, slice_get, slice_index, Option, Some, None, option_and_then, if◌then◌else◌}
+use Rattle.std.specs.Prelude.{ℕ, zero, suc, Bool, false, List, [], ◌∷◌, ◌++◌, slice_get}
+use Rattle.std.specs.Prelude.{slice_index, Option, Some, None, option_and_then, if◌then◌else◌}
 use Rattle.std.specs.Option.{option_to_list}
 use Rattle.gw_model.specs.Places.{change}
 use Rattle.gw_model.specs.declared.control.Ended.{Ended}
@@ -22,7 +23,9 @@ use Rattle.gw_control.specs.declared.answer.Outcome.{Outcome}
 use Rattle.gw_control.specs.Intents.{control_for}
 use Rattle.gw_control.specs.Orders.{Outgoing}
 use Rattle.gw_control.specs.Selections.{asked}
-use Rattle.gw_control.specs.Controls.{Controls, answer_of, controls_after_command, controls_after_end, controls_after_ended, controls_after_lost, order_at, outcome_ended_at, outcome_lost_at}
+use Rattle.gw_control.specs.Controls.{Controls, answer_of, controls_after_command}
+use Rattle.gw_control.specs.Controls.{controls_after_end, controls_after_ended, controls_after_lost}
+use Rattle.gw_control.specs.Controls.{order_at, outcome_ended_at, outcome_lost_at}
 use Rattle.gw_station.specs.declared.event.Event.{Event}
 use Rattle.gw_station.specs.declared.event.Event.TheVariants as events
 use Rattle.gw_station.specs.declared.event.Said.{Said}

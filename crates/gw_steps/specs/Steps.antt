@@ -1,12 +1,15 @@
 -- The step relation: what a step answers where memory is never refused, and the state after it, by cases on the step.
 use Rattle.std.specs.Option.{option_to_list}
-use Rattle.std.specs.Prelude.{◌≡◌, ℕ, ◌+◌, ◌*◌, ◌^◌, Bool, true, false, ◌&&◌, nat_lt, List, [], ◌∷◌, ◌++◌, length, map, slice_get, Option, Some, None, option_map, Result, Ok, Err, IsTrue, if◌then◌else◌}
+use Rattle.std.specs.Prelude.{◌≡◌, ℕ, ◌+◌, ◌*◌, ◌^◌, Bool, true, false, ◌&&◌, nat_lt}
+use Rattle.std.specs.Prelude.{List, [], ◌∷◌, ◌++◌, length, map, slice_get, Option, Some}
+use Rattle.std.specs.Prelude.{None, option_map, Result, Ok, Err, IsTrue, if◌then◌else◌}
 use Rattle.gw_model.specs.declared.observation.Observation.{Observation}
 use Rattle.gw_map.specs.Settings.{Setup, station_clocks}
 use Rattle.gw_model.specs.Places.{change}
 use Rattle.dnp_app.specs.Response.{Fragment}
 use Rattle.dnp_app.specs.declared.request.Request.{Request}
-use Rattle.dnp_master.specs.Master.{Master, ended_by_tick, master_down, master_after_up, master_after_next, master_after_order, master_after_tick, request_given, request_ordered}
+use Rattle.dnp_master.specs.Master.{Master, ended_by_tick, master_down, master_after_up, master_after_next}
+use Rattle.dnp_master.specs.Master.{master_after_order, master_after_tick, request_given, request_ordered}
 use Rattle.dnp_master.specs.Fragments.{accepts, verdict_of, master_after_fragment}
 use Rattle.iec_apci.specs.declared.apdu.Apdu.{Apdu}
 use Rattle.iec_apci.specs.Apdu.{ApduContent}
@@ -34,7 +37,9 @@ use Rattle.gw_steps.specs.declared.step.Reply.TheVariants as replies
 use Rattle.gw_steps.specs.declared.step.StepFault.{StepFault}
 use Rattle.gw_steps.specs.declared.step.StepFault.TheVariants.{NoOutstation, NoClient, NotUp, AlreadyUp, Memory, Spent}
 use Rattle.gw_steps.specs.State.{State, Counts, later}
-use Rattle.gw_steps.specs.Controls.{answer_to, clients_told, controls_after_all_ended, controls_after_closes, controls_after_event, controls_with_ended, ended_by_fragment, ended_lost, order_due, outcome_ended, outcomes_ended, outcomes_lost, said_by}
+use Rattle.gw_steps.specs.Controls.{answer_to, clients_told, controls_after_all_ended, controls_after_closes}
+use Rattle.gw_steps.specs.Controls.{controls_after_event, controls_with_ended, ended_by_fragment, ended_lost}
+use Rattle.gw_steps.specs.Controls.{order_due, outcome_ended, outcomes_ended, outcomes_lost, said_by}
 
 -- ---- faults
 

@@ -1,10 +1,13 @@
 //! What a step does besides what it replies.
-ghost use Rattle.std.specs.Prelude.{◌≡◌, ◌+◌, ◌*◌, ◌≤◌, ◌<◌, ◌++◌, [], ◌∷◌, length, map, slice_get, slice_index, IfOk, Some};
+ghost use Rattle.std.specs.Prelude.{◌≡◌, ◌+◌, ◌*◌, ◌≤◌, ◌<◌, ◌++◌, [], ◌∷◌};
+ghost use Rattle.std.specs.Prelude.{length, map, slice_get, slice_index, IfOk, Some};
 ghost use Rattle.std.specs.List.{filter};
 ghost use Rattle.std.specs.Option.{option_to_list};
 ghost use Rattle.gw_model.specs.Places.{change};
 ghost use Rattle.gw_steps.specs.declared.effects.Fate.TheVariants.{LetGo, Lost};
-ghost use Rattle.gw_steps.specs.Effects.{end_at, end_of, event_count, fate_taken, is_of_leaving, is_so, let_go, lost_of, no_effects, only, order_end, reported_by, with_due, with_ends, Telling};
+ghost use Rattle.gw_steps.specs.Effects.{end_at, end_of, event_count, fate_taken, is_of_leaving};
+ghost use Rattle.gw_steps.specs.Effects.{is_so, let_go, lost_of, no_effects, only, order_end};
+ghost use Rattle.gw_steps.specs.Effects.{reported_by, with_due, with_ends, Telling};
 
 use crate::apdu_kind::ApduKind;
 use circular_buffer::HeapCircularBuffer;

@@ -22,7 +22,11 @@ ghost use Rattle.gw_steps.specs.declared.apdu_kind.ApduKind.TheVariants as kinds
 ghost use Rattle.gw_steps.specs.declared.effects.Fate.TheVariants as fates;
 ghost use Rattle.gw_steps.specs.Effects.{effects_of, no_client};
 ghost use Rattle.gw_steps.specs.Kinds.{kind_in};
-ghost use Rattle.gw_steps.specs.Example.{after_steps, ahead, answer, beginning, connect, control_of, counting, down, echo, ends, event, fragment_of, integrity_answer, interrogate, interrogated, last_count, next_reading, operate, outstation_down, outstation_up, poll, pump, pumps, reached, reading, returned, setup, solicited, start, started, starting, starts, three_orders, timed, two_clients, unanswered, up};
+ghost use Rattle.gw_steps.specs.Example.{after_steps, ahead, answer, beginning, connect, control_of, counting, down};
+ghost use Rattle.gw_steps.specs.Example.{echo, ends, event, fragment_of, integrity_answer, interrogate, interrogated};
+ghost use Rattle.gw_steps.specs.Example.{last_count, next_reading, operate, outstation_down, outstation_up, poll};
+ghost use Rattle.gw_steps.specs.Example.{pump, pumps, reached, reading, returned, setup, solicited, start, started};
+ghost use Rattle.gw_steps.specs.Example.{starting, starts, three_orders, timed, two_clients, unanswered, up};
 
 /// Replies to single steps, with faults before them.
 pub fn replies_by_example()

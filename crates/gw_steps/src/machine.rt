@@ -1,5 +1,6 @@
 //! What makes steps.
-ghost use Rattle.std.specs.Prelude.{◌≡◌, ◌+◌, ◌≤◌, ◌↔◌, drop, length, take, true, false, IfOk, IsTrue, Some, slice_get};
+ghost use Rattle.std.specs.Prelude.{◌≡◌, ◌+◌, ◌≤◌, ◌↔◌, drop, length, take};
+ghost use Rattle.std.specs.Prelude.{true, false, IfOk, IsTrue, Some, slice_get};
 ghost use Rattle.gw_steps.specs.State.{Hub};
 ghost use Rattle.gw_steps.specs.Steps.{client_up, Allowed};
 ghost use Rattle.gw_steps.specs.Sound.{IsSoundState};

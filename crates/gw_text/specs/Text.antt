@@ -4,7 +4,9 @@ use Rattle.std.specs.Fmt.{decimal}
 use Rattle.gw_model.specs.declared.observation.Observation.{Observation}
 use Rattle.gw_map.specs.Settings.{Setup, station_clocks}
 use Rattle.dnp_objects.specs.declared.fault.HeaderFault.{HeaderFault}
-use Rattle.dnp_objects.specs.declared.fault.HeaderFault.TheVariants.{UnknownObject, UnknownQualifier, ShortRange, StopBeforeStart, ShortData, TooMany, Memory as NoRoom}
+use Rattle.dnp_objects.specs.declared.fault.HeaderFault.TheVariants.{UnknownObject, UnknownQualifier}
+use Rattle.dnp_objects.specs.declared.fault.HeaderFault.TheVariants.{ShortRange, StopBeforeStart}
+use Rattle.dnp_objects.specs.declared.fault.HeaderFault.TheVariants.{ShortData, TooMany, Memory as NoRoom}
 use Rattle.dnp_app.specs.declared.fault.AppFault.{AppFault}
 use Rattle.dnp_app.specs.declared.fault.AppFault.TheVariants.{Short, NotResponse, Object, Memory}
 use Rattle.iec_asdu.specs.Spelling.{spelling}

@@ -1,5 +1,6 @@
 //! Octets as text: two hexadecimal digits each, with one space between two octets.
-ghost use Rattle.std.specs.Prelude.{◌≡◌, ◌*◌, ◌<◌, ◌≤◌, ◌++◌, [], IfOk, IfSome, OnOk, ℕ, List, ◌+◌, length, take, Some, None, vec_capacity, if◌then◌else◌};
+ghost use Rattle.std.specs.Prelude.{◌≡◌, ◌*◌, ◌<◌, ◌≤◌, ◌++◌, [], IfOk, IfSome, OnOk, ℕ, List};
+ghost use Rattle.std.specs.Prelude.{◌+◌, length, take, Some, None, vec_capacity, if◌then◌else◌};
 ghost use Rattle.std.specs.Option.{option_map};
 ghost use Rattle.gw_text.specs.Hex.{digit, line_octets, octet, octets_of, spaced_digits, upper_digit};
 

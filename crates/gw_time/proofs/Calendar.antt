@@ -4,7 +4,8 @@ use Rattle.std.proofs.lemmas.Int.{by_lt_z}
 use Rattle.jiff_core.specs.Calendar.{day_count, days_from_civil, IsCivilDate}
 use Rattle.jiff_core.proofs.SignedLemmas.{signed_arith}
 use Rattle.jiff_core.proofs.MarchLemmas.{day_count-early}
-use Rattle.jiff_core.proofs.CalendarLemmas.{days_from_civil-day_count, day_count-day_of_year, day_count-next_year, day_count-later_year, day_count-lt_year}
+use Rattle.jiff_core.proofs.CalendarLemmas.{days_from_civil-day_count, day_count-day_of_year}
+use Rattle.jiff_core.proofs.CalendarLemmas.{day_count-next_year, day_count-later_year, day_count-lt_year}
 
 pub days_to_2000 : day_count (pos 2000) 1 1 ≡ 4_382_910
 days_to_2000 = day_count-early (pos 2000) 11999 1 1 refl (omega arith) (omega arith) (omega arith)

@@ -1,5 +1,6 @@
 -- The years 2000 to 2099 in milliseconds.
-use Rattle.std.proofs.Common.{◌≡◌, ◌≢◌, ◌↔◌, ℕ, ◌<◌, ◌+ℤ◌, ◌*ℤ◌, arith, refl, ℤ, pos, ◌<ℤ◌, ◌≤ℤ◌}
+use Rattle.std.proofs.Common.{◌≡◌, ◌≢◌, ◌↔◌, ℕ, ◌<◌, ◌+ℤ◌}
+use Rattle.std.proofs.Common.{◌*ℤ◌, arith, refl, ℤ, pos, ◌<ℤ◌, ◌≤ℤ◌}
 use Rattle.jiff_core.specs.Calendar.{IsBetween, IsCivilDate, days_from_civil}
 use Rattle.jiff_core.proofs.SignedLemmas.{signed_arith}
 use Rattle.jiff_core.proofs.CalendarLemmas.{days_from_civil-day_count}

@@ -1,11 +1,14 @@
 -- Counting off whole months from 1 January 2000 gives the date, and the tag of a stamp is the one that is written.
-use Rattle.std.proofs.Common.{◌≡◌, ℕ, zero, suc, ◌+◌, ◌-◌, ◌*◌, ◌/◌, ◌%◌, ◌<◌, ◌≤◌, ◌==◌, ◌&&◌, Bool, true, false, nat_lt, nat_le, List, refl, ap, sym, ◌∙◌, arith, ℤ, pos, negsuc, Option, Some, None}
+use Rattle.std.proofs.Common.{◌≡◌, ℕ, zero, suc, ◌+◌, ◌-◌, ◌*◌, ◌/◌, ◌%◌, ◌<◌}
+use Rattle.std.proofs.Common.{◌≤◌, ◌==◌, ◌&&◌, Bool, true, false, nat_lt, nat_le, List}
+use Rattle.std.proofs.Common.{refl, ap, sym, ◌∙◌, arith, ℤ, pos, negsuc, Option, Some, None}
 use Rattle.std.proofs.lemmas.Bool.{ltb-true, ltb-false, eqb-true, eqb-false, and_parts, and_from, le-leb, lt-ltb, leb-true}
 use Rattle.jiff_core.specs.declared.civil.date.Date.{Date}
 use Rattle.jiff_core.specs.Date.{epoch_day}
 use Rattle.jiff_core.specs.Calendar.{days_in_month, day_count, days_from_civil, IsCivilDate}
 use Rattle.jiff_core.proofs.SignedLemmas.{signed_arith}
-use Rattle.jiff_core.proofs.CalendarLemmas.{day_count-day, day_count-next_month, day_count-next_year, day_count-last_of_year, days_from_civil-day_count}
+use Rattle.jiff_core.proofs.CalendarLemmas.{day_count-day, day_count-next_month, day_count-next_year}
+use Rattle.jiff_core.proofs.CalendarLemmas.{day_count-last_of_year, days_from_civil-day_count}
 use Rattle.jiff_core.proofs.DateLemmas.{civil}
 use Rattle.gw_time.specs.declared.binary_time.BinaryTime.{BinaryTime}
 use Rattle.gw_time.specs.Spelling.{date_after, numbers_at, octets_of, tag_showing}

@@ -1,5 +1,6 @@
 -- What a tag that means a stamp is made of.
-use Rattle.std.proofs.Common.{◌≡◌, ℕ, ◌<◌, Bool, true, false, ◌&&◌, nat_lt, nat_le, if◌then◌else◌, refl, arith, ℤ, pos, negsuc, ◌+ℤ◌, ◌-ℤ◌, ◌*ℤ◌, ◌<ℤ◌, ◌≤ℤ◌, List, Result, Ok, Err}
+use Rattle.std.proofs.Common.{◌≡◌, ℕ, ◌<◌, Bool, true, false, ◌&&◌, nat_lt, nat_le, if◌then◌else◌, refl, arith}
+use Rattle.std.proofs.Common.{ℤ, pos, negsuc, ◌+ℤ◌, ◌-ℤ◌, ◌*ℤ◌, ◌<ℤ◌, ◌≤ℤ◌, List, Result, Ok, Err}
 use Rattle.std.specs.Prelude.{unsigned_abs}
 use Rattle.std.proofs.lemmas.Bool.{and_parts}
 use Rattle.std.proofs.lemmas.Bool.Decides.{nat_tests}
@@ -10,7 +11,8 @@ use Rattle.gw_model.specs.Clocks.{Clocks, minutes_ahead}
 use Rattle.gw_time.specs.declared.fault.TagFault.{TagFault}
 use Rattle.gw_time.specs.declared.fault.TagFault.TheVariants.{Field, Date}
 use Rattle.gw_time.specs.declared.binary_time.BinaryTime.{BinaryTime}
-use Rattle.gw_time.specs.Tag.{is_in_range, has_day, civil_year, time_of_day, civil_milliseconds, stamp_of, is_of_summer, instant_of, tag_meaning, numbers_in}
+use Rattle.gw_time.specs.Tag.{is_in_range, has_day, civil_year, time_of_day, civil_milliseconds}
+use Rattle.gw_time.specs.Tag.{stamp_of, is_of_summer, instant_of, tag_meaning, numbers_in}
 use Rattle.gw_time.specs.Laws.{AreStationClocks}
 use Rattle.gw_time.proofs.Calendar.{from_2000, before_2100}
 

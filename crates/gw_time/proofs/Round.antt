@@ -1,5 +1,6 @@
 -- Tags that mean one stamp.
-use Rattle.std.proofs.Common.{◌≡◌, ℕ, ◌+◌, ◌*◌, ◌/◌, ◌%◌, ◌<◌, ◌==◌, ◌&&◌, Bool, true, false, refl, ap, sym, ◌∙◌, arith, ℤ, pos, ◌+ℤ◌, ◌*ℤ◌, List, slice_index, Ok}
+use Rattle.std.proofs.Common.{◌≡◌, ℕ, ◌+◌, ◌*◌, ◌/◌, ◌%◌, ◌<◌, ◌==◌, ◌&&◌, Bool, true}
+use Rattle.std.proofs.Common.{false, refl, ap, sym, ◌∙◌, arith, ℤ, pos, ◌+ℤ◌, ◌*ℤ◌, List, slice_index, Ok}
 use Rattle.std.proofs.lemmas.Bool.Decides.{nat_tests}
 use Rattle.jiff_core.specs.declared.civil.date.Date as date
 use Rattle.jiff_core.specs.Calendar.{days_from_civil, IsCivilDate}
@@ -8,7 +9,8 @@ use Rattle.jiff_core.proofs.DateLemmas.{epoch_day_injective}
 use Rattle.gw_model.specs.declared.point.Stamp.{Stamp}
 use Rattle.gw_time.specs.declared.binary_time.BinaryTime.{BinaryTime}
 use Rattle.gw_model.specs.Clocks.{Clocks, tells_summer, is_summer, minutes_ahead, shown_at}
-use Rattle.gw_time.specs.Tag.{civil_year, time_of_day, civil_milliseconds, stamp_of, is_of_summer, instant_of, tag_meaning, numbers_in, kept_summer, plain}
+use Rattle.gw_time.specs.Tag.{civil_year, time_of_day, civil_milliseconds, stamp_of, is_of_summer}
+use Rattle.gw_time.specs.Tag.{instant_of, tag_meaning, numbers_in, kept_summer, plain}
 use Rattle.gw_time.specs.Window.{HasTag, IsFrom2000To2099}
 use Rattle.gw_time.specs.Laws.{AreStationClocks, IsByTheClocks, AreSevenOctets}
 use Rattle.gw_time.proofs.Century.{window_of_shown}

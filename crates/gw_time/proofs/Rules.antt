@@ -1,5 +1,6 @@
 -- The clocks of a zone, and their offset by a rule, which is the one that jiff tells.
-use Rattle.std.proofs.Common.{◌≡◌, ◌∙◌, ap, refl, arith, ℤ, pos, negsuc, ◌≤ℤ◌, Bool, true, false, if◌then◌else◌, Some, None}
+use Rattle.std.proofs.Common.{◌≡◌, ◌∙◌, ap, refl, arith, ℤ, pos, negsuc, ◌≤ℤ◌}
+use Rattle.std.proofs.Common.{Bool, true, false, if◌then◌else◌, Some, None}
 use mir.Val.{to_z, of_z}
 use mir.Syntax.{w32}
 use Rattle.jiff_core.proofs.SignedLemmas.{signed_casts}

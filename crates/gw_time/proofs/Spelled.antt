@@ -1,5 +1,8 @@
 -- What the tag of a stamp means, and which stamps have one.
-use Rattle.std.proofs.Common.{◌≡◌, ◌↔◌, ℕ, zero, suc, [], ◌∷◌, slice_index, ◌+◌, ◌-◌, ◌*◌, ◌/◌, ◌%◌, ◌<◌, ◌≤◌, Bool, true, false, cond, ◌&&◌, ◌==◌, List, refl, ap, sym, ◌∙◌, arith, ℤ, pos, negsuc, ◌+ℤ◌, ◌-ℤ◌, ◌*ℤ◌, Option, Some, None, Ok, is_some, IsSome, IsSomeAnd, IfSome, ◌⊎◌, inl, inr}
+use Rattle.std.proofs.Common.{◌≡◌, ◌↔◌, ℕ, zero, suc, [], ◌∷◌, slice_index, ◌+◌, ◌-◌, ◌*◌}
+use Rattle.std.proofs.Common.{◌/◌, ◌%◌, ◌<◌, ◌≤◌, Bool, true, false, cond, ◌&&◌, ◌==◌, List, refl}
+use Rattle.std.proofs.Common.{ap, sym, ◌∙◌, arith, ℤ, pos, negsuc, ◌+ℤ◌, ◌-ℤ◌, ◌*ℤ◌, Option, Some}
+use Rattle.std.proofs.Common.{None, Ok, is_some, IsSome, IsSomeAnd, IfSome, ◌⊎◌, inl, inr}
 use Rattle.std.specs.Prelude.{unsigned_abs}
 use Rattle.std.proofs.lemmas.Bool.Decides.{nat_tests}
 use Rattle.std.proofs.lemmas.Bool.{false≢true}
@@ -11,7 +14,8 @@ use Rattle.gw_model.specs.declared.point.Stamp.{Stamp}
 use Rattle.gw_model.specs.declared.point.Stamp.TheVariants.{Untimed, At, Doubtful}
 use Rattle.gw_time.specs.declared.binary_time.BinaryTime.{BinaryTime}
 use Rattle.gw_model.specs.Clocks.{Clocks, tells_summer, is_summer_by, is_summer, minutes_ahead, shown_at}
-use Rattle.gw_time.specs.Tag.{numbers_in, is_in_range, has_day, civil_year, time_of_day, civil_milliseconds, stamp_of, is_of_summer, instant_of, time_meaning, tag_meaning, kept_summer, plain}
+use Rattle.gw_time.specs.Tag.{numbers_in, is_in_range, has_day, civil_year, time_of_day, civil_milliseconds}
+use Rattle.gw_time.specs.Tag.{stamp_of, is_of_summer, instant_of, time_meaning, tag_meaning, kept_summer, plain}
 use Rattle.gw_time.specs.Window.{HasTag, IsFrom2000To2099}
 use Rattle.gw_time.specs.Spelling.{date_after, numbers_at, octets_of, tag_showing, tag_of}
 use Rattle.gw_time.specs.Laws.{AreSevenOctets, IsByTheClocks}

@@ -1,8 +1,10 @@
 -- Summer time by a rule of the variable TZ of POSIX (IEEE Std 1003.1, 8.3), as a function of the instant.
-use Rattle.std.specs.Prelude.{ℕ, ℤ, pos, ◌*◌, ◌+ℤ◌, ◌-ℤ◌, ◌*ℤ◌, ◌&&◌, ◌||◌, Bool, int_lt, Option, Some, None, option_map, if◌then◌else◌}
+use Rattle.std.specs.Prelude.{ℕ, ℤ, pos, ◌*◌, ◌+ℤ◌, ◌-ℤ◌, ◌*ℤ◌, ◌&&◌, ◌||◌}
+use Rattle.std.specs.Prelude.{Bool, int_lt, Option, Some, None, option_map, if◌then◌else◌}
 use Rattle.jiff_core.specs.Timestamp.{nanos_of_seconds}
 use Rattle.jiff_tz.specs.Year.{year_of_nanos}
-use Rattle.jiff_tz.specs.PosixRule.{match_some, clamp_to, nanos_per_day, first_nanosecond, last_nanosecond, rule_day, in_window, saturating_add, int_same}
+use Rattle.jiff_tz.specs.PosixRule.{match_some, clamp_to, nanos_per_day, first_nanosecond}
+use Rattle.jiff_tz.specs.PosixRule.{last_nanosecond, rule_day, in_window, saturating_add, int_same}
 use Rattle.jiff_tz.specs.declared.posix.Day.{Day}
 use Rattle.jiff_tz.specs.declared.posix.Day.TheVariants as posix
 use Rattle.gw_model.specs.declared.rule.RuleDay.{RuleDay}

@@ -1,5 +1,6 @@
 //! The numbers in a time tag.
-ghost use Rattle.std.specs.Prelude.{◌≡◌, ◌+◌, ◌*◌, ◌/◌, ◌↔◌, ◌<◌, ℕ, pos, ◌≤ℤ◌, ◌*ℤ◌, IsTrue, IsSome, IfSome};
+ghost use Rattle.std.specs.Prelude.{◌≡◌, ◌+◌, ◌*◌, ◌/◌, ◌↔◌, ◌<◌, ℕ};
+ghost use Rattle.std.specs.Prelude.{pos, ◌≤ℤ◌, ◌*ℤ◌, IsTrue, IsSome, IfSome};
 ghost use Rattle.jiff_core.specs.Date.{IsYmd};
 ghost use Rattle.jiff_core.specs.Time.{time_nanos};
 ghost use Rattle.jiff_core.specs.DateTime.{civil_nanos};

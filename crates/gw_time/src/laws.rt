@@ -1,5 +1,6 @@
 //! What holds of every stamp and of every tag.
-ghost use Rattle.std.specs.Prelude.{◌≡◌, ◌≢◌, ◌↔◌, ◌<◌, ℕ, ℤ, pos, ◌+ℤ◌, List, Some, Ok, Err, IsOk, IsSome, IfSome, IfOk, IfErr};
+ghost use Rattle.std.specs.Prelude.{◌≡◌, ◌≢◌, ◌↔◌, ◌<◌, ℕ, ℤ, pos, ◌+ℤ◌, List};
+ghost use Rattle.std.specs.Prelude.{Some, Ok, Err, IsOk, IsSome, IfSome, IfOk, IfErr};
 ghost use Rattle.gw_model.specs.declared.point.Stamp.{Stamp as Stamp_lem};
 ghost use Rattle.gw_model.specs.declared.point.Stamp.TheVariants.{Untimed, At, Doubtful};
 ghost use Rattle.gw_model.specs.Clocks.{Clocks, always_ahead, shown_at};

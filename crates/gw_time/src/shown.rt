@@ -1,5 +1,6 @@
 //! What the clocks of the station show.
-ghost use Rattle.std.specs.Prelude.{◌≡◌, ◌↔◌, ◌≤◌, ◌*◌, ℕ, ℤ, pos, ◌≤ℤ◌, ◌-ℤ◌, ◌*ℤ◌, ◌&&◌, IsSome, IfSome};
+ghost use Rattle.std.specs.Prelude.{◌≡◌, ◌↔◌, ◌≤◌, ◌*◌, ℕ, ℤ, pos};
+ghost use Rattle.std.specs.Prelude.{◌≤ℤ◌, ◌-ℤ◌, ◌*ℤ◌, ◌&&◌, IsSome, IfSome};
 ghost use Rattle.jiff_core.specs.DateTime.{civil_nanos};
 ghost use Rattle.gw_model.specs.Clocks.{tells_summer, minutes_ahead, is_summer, shown_at};
 ghost use Rattle.gw_time.specs.Rule.{clocks_of};

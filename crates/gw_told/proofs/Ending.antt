@@ -1,5 +1,7 @@
 -- At each point of a run the last step told of the sessions that it ended.
-use Rattle.std.proofs.Common.{◌≡◌, ℕ, zero, suc, ◌<◌, Bool, true, false, cond, ◌&&◌, List, [], ◌∷◌, length, map, Option, Some, None, Result, Ok, Err, option_map, refl, sym, ap, subst, ◌∙◌, arith, inl, inr}
+use Rattle.std.proofs.Common.{◌≡◌, ℕ, zero, suc, ◌<◌, Bool, true, false, cond, ◌&&◌, List}
+use Rattle.std.proofs.Common.{[], ◌∷◌, length, map, Option, Some, None, Result, Ok, Err}
+use Rattle.std.proofs.Common.{option_map, refl, sym, ap, subst, ◌∙◌, arith, inl, inr}
 use Rattle.std.specs.Prelude.{◌==◌, replicate, slice_get}
 use Rattle.std.proofs.lemmas.Bool.{cases_eq, eq-eqb, eqb-true, ne_eqb}
 use Rattle.std.proofs.lemmas.List.{length-map}
@@ -24,10 +26,13 @@ use Rattle.gw_steps.specs.declared.step.Reply.{Reply}
 use Rattle.gw_steps.specs.declared.step.Reply.TheVariants as replies
 use Rattle.gw_steps.specs.declared.step.StepFault.{StepFault}
 use Rattle.gw_steps.specs.declared.step.StepFault.TheVariants.{NoClient}
-use Rattle.gw_steps.specs.Effects.{Effects, answered as answered_ends, dropped_of, effects_of, effects_of_apdu, effects_of_event, ending_of, ends_session as event_ends, is_so, judged, no_client, no_effects, only, or_offered, reported}
+use Rattle.gw_steps.specs.Effects.{Effects, answered as answered_ends, dropped_of, effects_of}
+use Rattle.gw_steps.specs.Effects.{effects_of_apdu, effects_of_event, ending_of, ends_session as event_ends}
+use Rattle.gw_steps.specs.Effects.{is_so, judged, no_client, no_effects, only, or_offered, reported}
 use Rattle.gw_steps.specs.Queries.{dropped_at}
 use Rattle.gw_steps.specs.State.{State}
-use Rattle.gw_steps.specs.Steps.{Allowed, after, bits_of, can_be_counted, client_reply, fault_of, is_accepting, latest, needs, reply_of_event, reply_to}
+use Rattle.gw_steps.specs.Steps.{Allowed, after, bits_of, can_be_counted, client_reply, fault_of}
+use Rattle.gw_steps.specs.Steps.{is_accepting, latest, needs, reply_of_event, reply_to}
 use Rattle.gw_steps.specs.Runs.{AtEach, Entry, IsRun, state_after}
 use Rattle.gw_steps.proofs.Inversion.{answered, who_is_up}
 use Rattle.gw_steps.proofs.Running.{entry}

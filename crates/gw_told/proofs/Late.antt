@@ -1,5 +1,6 @@
 -- At each point of a run the last step told of the outstations whose requests are late by the history.
-use Rattle.std.proofs.Common.{◌≡◌, ℕ, zero, suc, ◌+◌, ◌<◌, Bool, true, false, cond, ◌&&◌, List, [], ◌∷◌, length, map, Option, Some, None, Result, Ok, Err, option_map, refl, sym, ap, ◌∙◌, arith}
+use Rattle.std.proofs.Common.{◌≡◌, ℕ, zero, suc, ◌+◌, ◌<◌, Bool, true, false, cond, ◌&&◌, List, [], ◌∷◌, length}
+use Rattle.std.proofs.Common.{map, Option, Some, None, Result, Ok, Err, option_map, refl, sym, ap, ◌∙◌, arith}
 use Rattle.std.specs.Prelude.{is_none, is_some, slice_get}
 use Rattle.std.proofs.lemmas.Bool.{eq-eqb, ne_eqb}
 use Rattle.gw_model.specs.declared.poll.Poll.{Poll}
@@ -18,7 +19,8 @@ use Rattle.gw_steps.specs.declared.step.Step.{Step}
 use Rattle.gw_steps.specs.declared.step.Step.TheVariants as steps
 use Rattle.gw_steps.specs.declared.step.Reply.{Reply}
 use Rattle.gw_steps.specs.declared.step.StepFault.{StepFault}
-use Rattle.gw_steps.specs.Effects.{answered, effects_of, effects_of_apdu, effects_of_event, ending_of, ends_session, judged, no_effects, reported, where_so}
+use Rattle.gw_steps.specs.Effects.{answered, effects_of, effects_of_apdu, effects_of_event}
+use Rattle.gw_steps.specs.Effects.{ending_of, ends_session, judged, no_effects, reported, where_so}
 use Rattle.gw_steps.specs.State.{State}
 use Rattle.gw_steps.specs.Steps.{is_accepting, latest}
 use Rattle.gw_steps.specs.Runs.{AtEach, Entry, state_after}

@@ -1,5 +1,6 @@
 -- A step tells of each client for which it brings something to be put out.
-use Rattle.std.proofs.Common.{◌≡◌, ℕ, Bool, true, false, cond, not, ◌&&◌, List, length, Option, Some, None, option_map, refl, sym, ap, ◌∙◌, inl, inr}
+use Rattle.std.proofs.Common.{◌≡◌, ℕ, Bool, true, false, cond, not, ◌&&◌, List, length}
+use Rattle.std.proofs.Common.{Option, Some, None, option_map, refl, sym, ap, ◌∙◌, inl, inr}
 use Rattle.std.specs.Prelude.{is_some, slice_get}
 use Rattle.std.proofs.lemmas.Bool.{and_parts, cases_eq}
 use Rattle.std.proofs.lemmas.List.{length-map}
@@ -19,7 +20,9 @@ use Rattle.gw_station.specs.Pump.{client_after_pump, client_by_offer, client_wit
 use Rattle.gw_steps.specs.declared.step.Step.{Step}
 use Rattle.gw_steps.specs.declared.step.Step.TheVariants as steps
 use Rattle.gw_steps.specs.Controls.{order_due}
-use Rattle.gw_steps.specs.Effects.{Effects, answered, done_by, effects_of, effects_of_apdu, effects_of_event, effects_of_fragment, ending_of, ends_session, is_so, judged, no_client, no_effects, only, or_offered, reported}
+use Rattle.gw_steps.specs.Effects.{Effects, answered, done_by, effects_of, effects_of_apdu}
+use Rattle.gw_steps.specs.Effects.{effects_of_event, effects_of_fragment, ending_of, ends_session}
+use Rattle.gw_steps.specs.Effects.{is_so, judged, no_client, no_effects, only, or_offered, reported}
 use Rattle.gw_steps.specs.Queries.{has_offer, offers_at}
 use Rattle.gw_steps.specs.State.{State}
 use Rattle.gw_steps.specs.Steps.{after, is_accepting, latest, parts_after_fragment, parts_after_poll}

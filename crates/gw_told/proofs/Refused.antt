@@ -11,7 +11,9 @@ use Rattle.gw_control.specs.declared.asked.AskedCommand.{AskedCommand}
 use Rattle.gw_control.specs.declared.refusal.Refusal.{Refusal}
 use Rattle.gw_control.specs.declared.refusal.Refusal.TheVariants.{NotSelected}
 use Rattle.gw_control.specs.declared.selection.Selection.{Selection}
-use Rattle.gw_control.specs.Controls.{Controls, act_by, act_unless, answer_at, answer_to_act, confirmed_if, element_refusal, is_deactivation, refusal_at, refusals_of_execute, refusals_of_select, standing_at}
+use Rattle.gw_control.specs.Controls.{Controls, act_by, act_unless, answer_at, answer_to_act}
+use Rattle.gw_control.specs.Controls.{confirmed_if, element_refusal, is_deactivation, refusal_at}
+use Rattle.gw_control.specs.Controls.{refusals_of_execute, refusals_of_select, standing_at}
 use Rattle.gw_control.specs.Intents.{control_for}
 use Rattle.gw_control.specs.Selections.{is_own, is_select}
 use Rattle.gw_station.specs.declared.event.Event.{Event}
@@ -23,7 +25,8 @@ use Rattle.gw_steps.specs.declared.step.Step.TheVariants as steps
 use Rattle.gw_steps.specs.declared.step.Reply.{Reply}
 use Rattle.gw_steps.specs.declared.step.StepFault.{StepFault}
 use Rattle.gw_steps.specs.Controls.{asked_by}
-use Rattle.gw_steps.specs.Effects.{answered, effects_of, effects_of_apdu, effects_of_event, ending_of, ends_session, judged, no_effects, reported}
+use Rattle.gw_steps.specs.Effects.{answered, effects_of, effects_of_apdu, effects_of_event}
+use Rattle.gw_steps.specs.Effects.{ending_of, ends_session, judged, no_effects, reported}
 use Rattle.gw_steps.specs.State.{State}
 use Rattle.gw_steps.specs.Steps.{is_accepting, latest}
 use Rattle.gw_steps.specs.Runs.{AtEach, Entry, state_after}

@@ -1,5 +1,6 @@
 -- At each point of a run: what the last reply says of an order that ended with a fragment is the fate that was told.
-use Rattle.std.proofs.Common.{◌≡◌, ℕ, Bool, true, false, cond, List, [], ◌∷◌, map, Option, Some, None, Result, Ok, Err, refl, sym, ap, ◌∙◌}
+use Rattle.std.proofs.Common.{◌≡◌, ℕ, Bool, true, false, cond, List, [], ◌∷◌, map}
+use Rattle.std.proofs.Common.{Option, Some, None, Result, Ok, Err, refl, sym, ap, ◌∙◌}
 use Rattle.std.specs.Prelude.{◌==◌, option_and_then, slice_get}
 use Rattle.std.specs.List.{AllByRecursion}
 use Rattle.std.specs.Option.{option_to_list}
@@ -18,7 +19,8 @@ use Rattle.dnp_master.specs.declared.task.Task.TheVariants.{Command}
 use Rattle.dnp_master.specs.declared.verdict.Verdict.{Verdict}
 use Rattle.dnp_master.specs.declared.verdict.Verdict.TheVariants.{Accepted, Repeated, Ignored}
 use Rattle.dnp_master.specs.declared.verdict.Ignored.TheVariants.{WrongFirst, WrongSequence}
-use Rattle.dnp_master.specs.Fragments.{control_in, ended_answered, is_acceptance, is_begun_rightly, is_done as is_task_done, is_last, verdict_of, verdict_of_answer}
+use Rattle.dnp_master.specs.Fragments.{control_in, ended_answered, is_acceptance, is_begun_rightly}
+use Rattle.dnp_master.specs.Fragments.{is_done as is_task_done, is_last, verdict_of, verdict_of_answer}
 use Rattle.dnp_master.specs.Master.{Master, ended}
 use Rattle.gw_control.specs.declared.accepted.UnderWay.{UnderWay}
 use Rattle.gw_control.specs.Orders.{Outgoing, is_named}

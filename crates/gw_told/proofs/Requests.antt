@@ -1,5 +1,6 @@
 -- A step tells of each outstation to which it makes a request due.
-use Rattle.std.proofs.Common.{◌≡◌, ℕ, Bool, true, false, cond, not, ◌&&◌, ◌||◌, List, [], ◌∷◌, map, Option, Some, None, option_map, refl, sym, ap, ◌∙◌, arith, inl, inr}
+use Rattle.std.proofs.Common.{◌≡◌, ℕ, Bool, true, false, cond, not, ◌&&◌, ◌||◌, List, [], ◌∷◌, map}
+use Rattle.std.proofs.Common.{Option, Some, None, option_map, refl, sym, ap, ◌∙◌, arith, inl, inr}
 use Rattle.std.specs.Prelude.{is_some, slice_get}
 use Rattle.std.proofs.lemmas.Bool.{cases_eq}
 use Rattle.gw_model.specs.Places.{change}
@@ -10,7 +11,8 @@ use Rattle.gw_map.specs.Settings.{Setup}
 use Rattle.gw_picture.proofs.Lists.{change-here, change-there, map-get}
 use Rattle.dnp_app.specs.Response.{Fragment}
 use Rattle.dnp_master.specs.declared.task.Task.{Task}
-use Rattle.dnp_master.specs.Master.{Master, is_ready, master_after_given, master_after_next, master_after_order, master_after_up, master_asking, master_down, order_task, task_given}
+use Rattle.dnp_master.specs.Master.{Master, is_ready, master_after_given, master_after_next, master_after_order}
+use Rattle.dnp_master.specs.Master.{master_after_up, master_asking, master_down, order_task, task_given}
 use Rattle.dnp_master.specs.Fragments.{master_after_fragment}
 use Rattle.iec_apci.specs.declared.apdu.Apdu.{Apdu}
 use Rattle.iec_apci.specs.declared.apdu.Apdu.TheVariants.{I, S, U}
@@ -19,7 +21,9 @@ use Rattle.gw_control.specs.declared.accepted.Accepted.{Accepted}
 use Rattle.gw_control.specs.declared.accepted.UnderWay.{UnderWay}
 use Rattle.gw_control.specs.declared.asked.AskedCommand.{AskedCommand}
 use Rattle.gw_control.specs.declared.selection.Selection.{Selection}
-use Rattle.gw_control.specs.Controls.{Controls, act_accepted, answer_at, answer_to_act, confirmed_if, controls_after_at, controls_ordering, controls_selecting, controls_unselecting, is_deactivation, is_order, is_selectable, order_at, standing_at}
+use Rattle.gw_control.specs.Controls.{Controls, act_accepted, answer_at, answer_to_act, confirmed_if}
+use Rattle.gw_control.specs.Controls.{controls_after_at, controls_ordering, controls_selecting, controls_unselecting}
+use Rattle.gw_control.specs.Controls.{is_deactivation, is_order, is_selectable, order_at, standing_at}
 use Rattle.gw_control.specs.Held.{controls_after_losses}
 use Rattle.gw_control.specs.Intents.{control_for}
 use Rattle.gw_control.specs.Orders.{Outgoing, outgoing_after_end, outgoing_after_taking, places}
@@ -31,7 +35,8 @@ use Rattle.gw_station.specs.Frames.{event_of}
 use Rattle.gw_steps.specs.declared.step.Step.{Step}
 use Rattle.gw_steps.specs.declared.step.Step.TheVariants as steps
 use Rattle.gw_steps.specs.Controls.{asked_by, controls_after_event, controls_with_ended, ended_lost, order_due}
-use Rattle.gw_steps.specs.Effects.{Effects, answered, due_from, effects_of, effects_of_apdu, effects_of_event, is_accepted, no_effects, one_where, reported}
+use Rattle.gw_steps.specs.Effects.{Effects, answered, due_from, effects_of, effects_of_apdu}
+use Rattle.gw_steps.specs.Effects.{effects_of_event, is_accepted, no_effects, one_where, reported}
 use Rattle.gw_steps.specs.Queries.{is_due, is_poll_due_of}
 use Rattle.gw_steps.specs.State.{State}
 use Rattle.gw_steps.specs.Steps.{after, controls_after_frame, is_accepting, latest, order_ended, parts_after_fragment, parts_after_poll}

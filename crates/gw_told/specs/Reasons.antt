@@ -1,5 +1,6 @@
 -- The worked runs of what steps tell of commands and of orders: one outstation with three controls, and two clients.
-use Rattle.std.specs.Prelude.{ℕ, zero, suc, ◌+◌, false, List, [], ◌∷◌, ◌++◌, map, Option, option_map, option_and_then, Result, Ok}
+use Rattle.std.specs.Prelude.{ℕ, zero, suc, ◌+◌, false, List, [], ◌∷◌, ◌++◌, map}
+use Rattle.std.specs.Prelude.{Option, option_map, option_and_then, Result, Ok}
 use Rattle.std.proofs.Common.{lit≤}
 use Rattle.gw_map.specs.Settings.{Setup}
 use Rattle.iec_apci.specs.declared.apdu.Apdu.TheVariants.{I, S, U}
@@ -22,7 +23,8 @@ use Rattle.gw_steps.specs.declared.step.StepFault.{StepFault}
 use Rattle.gw_steps.specs.State.{State, at_first}
 use Rattle.gw_steps.specs.Steps.{outcome}
 use Rattle.gw_steps.specs.Effects.{effects_of}
-use Rattle.gw_steps.specs.Example.{after_steps, answer, echo, fragment_of, outstation_up, poll, pump, response, starting, three_orders, three_orders_by}
+use Rattle.gw_steps.specs.Example.{after_steps, answer, echo, fragment_of, outstation_up, poll}
+use Rattle.gw_steps.specs.Example.{pump, response, starting, three_orders, three_orders_by}
 
 -- ---- what clients send
 

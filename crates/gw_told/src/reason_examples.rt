@@ -2,7 +2,9 @@
 ghost use Rattle.std.specs.Prelude.{◌≡◌, ◌++◌, [], ◌∷◌, map, replicate, Some, None, true, false};
 ghost use Rattle.dnp_app.specs.declared.operation.Operation.TheVariants.{DirectOperate, Operate, Select};
 ghost use Rattle.gw_control.specs.declared.answer.Answer.TheVariants.{Confirm, Negative, Ordered};
-ghost use Rattle.gw_control.specs.declared.refusal.Refusal.TheVariants.{Qualifier, NoState, OutOfRange, OutstationDown, SelectedByAnother, NotSelected, UnlikeSelect, NoPlace};
+ghost use Rattle.gw_control.specs.declared.refusal.Refusal.TheVariants.{Qualifier, NoState, OutOfRange};
+ghost use Rattle.gw_control.specs.declared.refusal.Refusal.TheVariants.{OutstationDown, SelectedByAnother};
+ghost use Rattle.gw_control.specs.declared.refusal.Refusal.TheVariants.{NotSelected, UnlikeSelect, NoPlace};
 ghost use Rattle.gw_control.specs.Example.{doubled, setup as with_controls, setup_with};
 ghost use Rattle.gw_steps.specs.declared.apdu_kind.ApduKind.TheVariants as kinds;
 ghost use Rattle.gw_steps.specs.declared.effects.Fate.TheVariants as fates;

@@ -7,9 +7,11 @@ ghost use Rattle.gw_model.specs.Point.{is_stamped};
 ghost use Rattle.gw_model.specs.Clocks.{always_ahead, utc};
 ghost use Rattle.gw_entries.specs.Shown.{is_shown_by};
 ghost use Rattle.gw_translate.specs.Quality.{quality_of};
-ghost use Rattle.gw_translate.specs.Image.{image_of, image_in};
-ghost use Rattle.gw_translate.specs.Image.{is_news_of};
-ghost use Rattle.gw_translate.specs.Example.{binary, output, counter, analog, intermediate_input, timed_event, static_value, binary_row, output_row, double_row, scaled_row, halved_row, enlarged_row, word_row, counter_row, types, observation, good, invalid, overflow};
+ghost use Rattle.gw_translate.specs.Image.{image_of, image_in, is_news_of};
+ghost use Rattle.gw_translate.specs.Example.{binary, output, counter, analog, intermediate_input};
+ghost use Rattle.gw_translate.specs.Example.{timed_event, static_value, binary_row, output_row};
+ghost use Rattle.gw_translate.specs.Example.{double_row, scaled_row, halved_row, enlarged_row, word_row};
+ghost use Rattle.gw_translate.specs.Example.{counter_row, types, observation, good, invalid, overflow};
 
 /// Which quality some flags give.
 pub fn qualities_by_example()

@@ -1,5 +1,6 @@
 -- What is decided of a line is what the line is answered, and whether it is accepted.
-use Rattle.std.proofs.Common.{◌≡◌, ◌≢◌, ℕ, Bool, true, false, cond, List, [], ◌∷◌, Option, Some, None, Result, Ok, Err, is_ok, refl, sym, ap, subst, ◌∙◌}
+use Rattle.std.proofs.Common.{◌≡◌, ◌≢◌, ℕ, Bool, true, false, cond, List, [], ◌∷◌, Option}
+use Rattle.std.proofs.Common.{Some, None, Result, Ok, Err, is_ok, refl, sym, ap, subst, ◌∙◌}
 use Rattle.gw_map.specs.Settings.{Setup}
 use Rattle.gw_model.specs.declared.observation.Observation.{Observation}
 use Rattle.dnp_app.specs.declared.fault.AppFault.{AppFault}
@@ -9,7 +10,10 @@ use Rattle.gw_text.specs.Hex.{line_octets}
 use Rattle.gw_text.specs.Text.{accepted_text}
 use Rattle.gw_translator.specs.Standing.{Standing, standing}
 use Rattle.gw_translator.specs.Translation.{Decides, decision_text, news_in, picture_after_reports}
-use Rattle.gw_translator.specs.Answers.{AnswersLine, AreToStore, IsAnswer, are_accepted, finding_after_decision, finding_after_line, finding_after_lines, finding_after_refusal, is_accepted, is_empty, line_reports, line_text, octets_reports, octets_text, picture_then, reports_read, response_text}
+use Rattle.gw_translator.specs.Answers.{AnswersLine, AreToStore, IsAnswer, are_accepted}
+use Rattle.gw_translator.specs.Answers.{finding_after_decision, finding_after_line, finding_after_lines}
+use Rattle.gw_translator.specs.Answers.{finding_after_refusal, is_accepted, is_empty, line_reports, line_text}
+use Rattle.gw_translator.specs.Answers.{octets_reports, octets_text, picture_then, reports_read, response_text}
 use Rattle.gw_translator.specs.declared.decision.Decision.{Decision}
 use Rattle.gw_translator.specs.declared.decision.Decision.TheVariants.{Empty, NotHex, Refused as RefusedOctets, Accepted}
 use Rattle.gw_translator.specs.declared.translator.Finding.{Finding}

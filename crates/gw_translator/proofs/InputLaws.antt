@@ -1,10 +1,13 @@
 -- The lines of an input, one after the other.
-use Rattle.std.proofs.Common.{◌≡◌, ◌≢◌, ℕ, ◌+◌, Bool, true, false, ◌&&◌, List, [], ◌∷◌, ◌++◌, Option, Some, None, IfSome, OnSome, refl, ap, ◌∙◌, subst}
+use Rattle.std.proofs.Common.{◌≡◌, ◌≢◌, ℕ, ◌+◌, Bool, true, false, ◌&&◌, List, [], ◌∷◌}
+use Rattle.std.proofs.Common.{◌++◌, Option, Some, None, IfSome, OnSome, refl, ap, ◌∙◌, subst}
 use Rattle.std.specs.List.{list_all}
 use Rattle.std.specs.Io.KnownBytes.{Appends}
 use Rattle.gw_map.specs.Settings.{Setup}
 use Rattle.gw_input.specs.Lines.{AreAnswered, Further, IsAnswered, lines_of}
-use Rattle.gw_translator.specs.Answers.{AnswersInput, AnswersLine, IsAnswer, beginning, finding_after_line, finding_after_lines, finding_of, is_accepted, line_text, standing_after, text_from, text_of}
+use Rattle.gw_translator.specs.Answers.{AnswersInput, AnswersLine, IsAnswer, beginning}
+use Rattle.gw_translator.specs.Answers.{finding_after_line, finding_after_lines, finding_of}
+use Rattle.gw_translator.specs.Answers.{is_accepted, line_text, standing_after, text_from, text_of}
 use Rattle.gw_translator.specs.Standing.{Standing}
 use Rattle.gw_translator.specs.declared.translator.Finding.{Finding}
 use Rattle.gw_translator.specs.declared.translator.Finding.TheVariants.{Fine, Refused, ShortOfMemory}

@@ -1,12 +1,15 @@
 -- A line whose front alone is kept is answered as the whole line.
-use Rattle.std.proofs.Common.{◌≡◌, ℕ, ◌<◌, Bool, true, false, List, [], ◌∷◌, length, take, refl, ap, subst, ◌∙◌, arith}
+use Rattle.std.proofs.Common.{◌≡◌, ℕ, ◌<◌, Bool, true, false, List, [], ◌∷◌}
+use Rattle.std.proofs.Common.{length, take, refl, ap, subst, ◌∙◌, arith}
 use Rattle.std.proofs.lemmas.List.{length-take}
 use Rattle.gw_map.specs.Settings.{Setup}
 use Rattle.gw_model.specs.declared.observation.Observation.{Observation}
 use Rattle.gw_input.specs.Lines.{FrontDecides}
 use Rattle.gw_text.specs.Hex.{line_octets}
 use Rattle.gw_text.proofs.HexLaws.{kept_line as kept_octets}
-use Rattle.gw_translator.specs.Answers.{AnswersLine, AreToStore, IsAnswer, finding_after_line, finding_after_lines, is_accepted, is_empty, line_reports, line_text, octets_reports, picture_then, standing_after}
+use Rattle.gw_translator.specs.Answers.{AnswersLine, AreToStore, IsAnswer, finding_after_line}
+use Rattle.gw_translator.specs.Answers.{finding_after_lines, is_accepted, is_empty, line_reports}
+use Rattle.gw_translator.specs.Answers.{line_text, octets_reports, picture_then, standing_after}
 use Rattle.gw_translator.specs.Standing.{Standing, standing}
 use Rattle.gw_translator.specs.Translation.{picture_after_reports}
 use Rattle.gw_translator.specs.declared.translator.Finding.{Finding}

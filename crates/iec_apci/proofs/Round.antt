@@ -1,5 +1,7 @@
 -- An APDU that was written is read back.
-use Rattle.std.proofs.Common.{◌≡◌, ℕ, ◌+◌, ◌*◌, ◌/◌, ◌%◌, ◌≤◌, ◌<◌, Bool, true, false, not, ◌||◌, List, [], ◌++◌, length, take, Option, Some, Ok, refl, ◌∙◌, ap, arith, nat_lt, le-ltb, eqb, eq-eqb}
+use Rattle.std.proofs.Common.{◌≡◌, ℕ, ◌+◌, ◌*◌, ◌/◌, ◌%◌, ◌≤◌, ◌<◌, Bool}
+use Rattle.std.proofs.Common.{true, false, not, ◌||◌, List, [], ◌++◌, length, take, Option}
+use Rattle.std.proofs.Common.{Some, Ok, refl, ◌∙◌, ap, arith, nat_lt, le-ltb, eqb, eq-eqb}
 use Rattle.std.proofs.lemmas.List.{take_all, drop_at}
 use Rattle.iec_apci.specs.declared.apdu.Signal.{Signal}
 use Rattle.iec_apci.specs.declared.apdu.Signal.TheVariants.{StartAct, StartCon, StopAct, StopCon, TestAct, TestCon}

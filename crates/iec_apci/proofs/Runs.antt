@@ -1,8 +1,10 @@
 -- Calls of a feed, in any order.
-use Rattle.std.proofs.Common.{◌≡◌, ℕ, List, [], ◌∷◌, ◌++◌, length, drop, Option, Some, None, Ok, Err, refl, sym, ◌∙◌, ap, subst, arith, append_assoc, length-append}
+use Rattle.std.proofs.Common.{◌≡◌, ℕ, List, [], ◌∷◌, ◌++◌, length, drop, Option, Some, None, Ok}
+use Rattle.std.proofs.Common.{Err, refl, sym, ◌∙◌, ap, subst, arith, append_assoc, length-append}
 use Rattle.iec_apci.specs.Apdu.{ApduContent, apdu}
 use Rattle.iec_apci.specs.Stream.{answer_at_front, Ending, Open, Faulty, Reading, reading_with_first, reading}
-use Rattle.iec_apci.specs.Calls.{ending_after_piece, answer, ending_behind, ending_after_answer, reading_of_ending, Call, Feed, Next, answers, nth_answer, count_after_answer, stream_answers}
+use Rattle.iec_apci.specs.Calls.{ending_after_piece, answer, ending_behind, ending_after_answer, reading_of_ending}
+use Rattle.iec_apci.specs.Calls.{Call, Feed, Next, answers, nth_answer, count_after_answer, stream_answers}
 use Rattle.iec_apci.specs.Laws.{joined_readings}
 use Rattle.iec_apci.proofs.Front.{Shown}
 use Rattle.iec_apci.proofs.Streams.{reading_apdu, reading_fault, reading_none, reading-append}

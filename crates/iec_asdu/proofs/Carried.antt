@@ -1,5 +1,7 @@
 -- What one ASDU carries of a list: observations of one type, at consecutive addresses under SQ 1, and never too many.
-use Rattle.std.proofs.Common.{◌≡◌, if◌then◌else◌, ℕ, zero, suc, ◌+◌, ◌-◌, ◌*◌, ◌/◌, ◌<◌, ◌≤◌, ◌&&◌, min, nat_le, Bool, true, false, cond, List, [], ◌∷◌, ◌++◌, length, get_or, take, drop, Option, Some, None, refl, sym, ap, subst, ◌∙◌, arith, is_some, length-append}
+use Rattle.std.proofs.Common.{◌≡◌, if◌then◌else◌, ℕ, zero, suc, ◌+◌, ◌-◌, ◌*◌, ◌/◌, ◌<◌, ◌≤◌}
+use Rattle.std.proofs.Common.{◌&&◌, min, nat_le, Bool, true, false, cond, List, [], ◌∷◌, ◌++◌, length, get_or, take}
+use Rattle.std.proofs.Common.{drop, Option, Some, None, refl, sym, ap, subst, ◌∙◌, arith, is_some, length-append}
 use Rattle.std.specs.Int.{w16, to_le_bytes}
 use Rattle.std.specs.Prelude.{IfSome, All}
 use Rattle.std.specs.List.{flat_map}
@@ -13,12 +15,16 @@ use Rattle.gw_time.specs.Spelling.{tag_of}
 use Rattle.iec_asdu.specs.declared.types.ElementKind.{ElementKind}
 use Rattle.iec_asdu.specs.declared.types.MonitorType.{MonitorType}
 use Rattle.iec_asdu.specs.Types.{identification_by, type_length}
-use Rattle.iec_asdu.specs.Spelling.{element_kind, element_octets, tag_octets, identification_at, address_octets, information_octets, object_octets, objects_octets, qualifier_of, header_octets, list_spelling, spelling}
+use Rattle.iec_asdu.specs.Spelling.{element_kind, element_octets, tag_octets, identification_at}
+use Rattle.iec_asdu.specs.Spelling.{address_octets, information_octets, object_octets, objects_octets}
+use Rattle.iec_asdu.specs.Spelling.{qualifier_of, header_octets, list_spelling, spelling}
 use Rattle.iec_asdu.specs.Fitting.{AreAlike, AreConsecutive, FitsAsdu}
-use Rattle.iec_asdu.specs.Packing.{type_at, is_alike, alike_count, consecutive_count, apart_count, in_sequence_count, is_in_sequence, room_in_sequence, taken_of, packed_spelling}
+use Rattle.iec_asdu.specs.Packing.{type_at, is_alike, alike_count, consecutive_count, apart_count}
+use Rattle.iec_asdu.specs.Packing.{in_sequence_count, is_in_sequence, room_in_sequence, taken_of, packed_spelling}
 use Rattle.iec_asdu.proofs.Lengths.{information_long}
 use Rattle.iec_asdu.proofs.Known.{same_type, type_short}
-use Rattle.iec_asdu.proofs.Counts.{nothing, like_itself, alike_are, alike_within, alike_longest, alike_under, consecutive_are, consecutive_within, consecutive_longest}
+use Rattle.iec_asdu.proofs.Counts.{nothing, like_itself, alike_are, alike_within, alike_longest}
+use Rattle.iec_asdu.proofs.Counts.{alike_under, consecutive_are, consecutive_within, consecutive_longest}
 
 -- ---- how many octets they have
 

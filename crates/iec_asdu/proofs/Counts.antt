@@ -1,5 +1,7 @@
 -- The prefixes of a list that an ASDU carries: what is counted at each place, and what holds of what is counted.
-use Rattle.std.proofs.Common.{◌≡◌, ◌≢◌, ℕ, zero, suc, ◌+◌, ◌-◌, ◌<◌, ◌≤◌, ◌==◌, ◌&&◌, Bool, true, false, cond, List, [], ◌∷◌, length, get_or, take, drop, refl, sym, ap, ◌∙◌, arith, is_some}
+use Rattle.std.proofs.Common.{◌≡◌, ◌≢◌, ℕ, zero, suc, ◌+◌, ◌-◌, ◌<◌, ◌≤◌}
+use Rattle.std.proofs.Common.{◌==◌, ◌&&◌, Bool, true, false, cond, List, [], ◌∷◌, length}
+use Rattle.std.proofs.Common.{get_or, take, drop, refl, sym, ap, ◌∙◌, arith, is_some}
 use Rattle.std.proofs.lemmas.Bool.{and_from, and_parts, eqb-true, eq-eqb, ne_eqb}
 use Rattle.std.proofs.lemmas.List.{at_drop_more, drop_all}
 use Rattle.std.proofs.lemmas.List.Elements.{All-nil, All-cons}
@@ -13,7 +15,8 @@ use Rattle.iec_asdu.specs.declared.types.MonitorType.{MonitorType}
 use Rattle.iec_asdu.specs.Types.{identification_by, type_length}
 use Rattle.iec_asdu.specs.Spelling.{identification_at}
 use Rattle.iec_asdu.specs.Fitting.{IsAlike, AreAlike, AreConsecutive}
-use Rattle.iec_asdu.specs.Packing.{type_at, room_apart, room_in_sequence, is_alike, alike_count, consecutive_count, apart_count, in_sequence_count}
+use Rattle.iec_asdu.specs.Packing.{type_at, room_apart, room_in_sequence, is_alike, alike_count}
+use Rattle.iec_asdu.specs.Packing.{consecutive_count, apart_count, in_sequence_count}
 
 -- ---- like the first one
 

@@ -1,5 +1,7 @@
 -- What is read is what the octets mean, and a fault comes only where they mean nothing.
-use Rattle.std.proofs.Common.{◌≡◌, ℕ, zero, suc, ◌+◌, ◌*◌, ◌==◌, Bool, true, false, cond, nat_lt, List, [], ◌∷◌, length, drop, Option, Some, None, Result, Ok, Err, refl, sym, ap, ◌∙◌, subst, arith, inl, inr}
+use Rattle.std.proofs.Common.{◌≡◌, ℕ, zero, suc, ◌+◌, ◌*◌, ◌==◌, Bool, true, false, cond}
+use Rattle.std.proofs.Common.{nat_lt, List, [], ◌∷◌, length, drop, Option, Some, None}
+use Rattle.std.proofs.Common.{Result, Ok, Err, refl, sym, ap, ◌∙◌, subst, arith, inl, inr}
 use Rattle.std.specs.Prelude.{IfOk, ok_or}
 use Rattle.std.specs.Result.{result_ok}
 use Rattle.std.proofs.lemmas.Bool.{cases_order, le-ltb, lt-ltb, eq-eqb, ne_eqb}
@@ -13,7 +15,8 @@ use Rattle.iec_asdu.specs.declared.reading.Monitor.{Monitor}
 use Rattle.gw_model.specs.Optional.{◌>>=◌}
 use Rattle.gw_model.specs.Outcome.{Gives}
 use Rattle.iec_asdu.specs.Types.{Layout}
-use Rattle.iec_asdu.specs.Asdu.{Asdu, size_of, address_at, observation_of, observation_at, objects_apart, objects_in_sequence, objects_of, asdu_meaning}
+use Rattle.iec_asdu.specs.Asdu.{Asdu, size_of, address_at, observation_of, observation_at}
+use Rattle.iec_asdu.specs.Asdu.{objects_apart, objects_in_sequence, objects_of, asdu_meaning}
 use Rattle.iec_asdu.specs.Grammar.{IsAsdu}
 use Rattle.iec_asdu.specs.Reading.{object_read, read_apart, read_in_sequence, objects_read, asdu_read, is_memory}
 use Rattle.iec_asdu.specs.Contents.{Contents, contents_of, Spells, monitor_contents, contents_read}

@@ -1,5 +1,6 @@
 -- What a type identification tells: the element, and whether a time tag stands behind it.
-use Rattle.std.proofs.Common.{◌≡◌, ◌≢◌, ℕ, ◌<◌, ◌≤◌, ◌==◌, Bool, true, false, Some, if◌then◌else◌, not, refl, sym, ap, ◌∙◌, arith, rules}
+use Rattle.std.proofs.Common.{◌≡◌, ◌≢◌, ℕ, ◌<◌, ◌≤◌, ◌==◌, Bool, true, false}
+use Rattle.std.proofs.Common.{Some, if◌then◌else◌, not, refl, sym, ap, ◌∙◌, arith, rules}
 use Rattle.gw_model.specs.Clocks.{Clocks}
 use denote.Enum.Bare.{sameb, differs_true, differs_false}
 use mathlib.Core.Bool.{beq}

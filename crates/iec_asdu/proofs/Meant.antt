@@ -1,5 +1,7 @@
 -- What is spelled for fit observations means these observations.
-use Rattle.std.proofs.Common.{◌≡◌, ℕ, zero, suc, true, false, Bool, ◌^◌, ◌+◌, ◌/◌, ◌%◌, ◌<◌, ◌≤◌, ◌∙◌, List, [], ◌∷◌, length, take, Option, Some, None, refl, sym, ap, subst, arith, is_some}
+use Rattle.std.proofs.Common.{◌≡◌, ℕ, zero, suc, true, false, Bool, ◌^◌, ◌+◌, ◌/◌}
+use Rattle.std.proofs.Common.{◌%◌, ◌<◌, ◌≤◌, ◌∙◌, List, [], ◌∷◌, length, take}
+use Rattle.std.proofs.Common.{Option, Some, None, refl, sym, ap, subst, arith, is_some}
 use Rattle.std.specs.Prelude.{option_map, IsTrue, IsSomeAnd, All}
 use Rattle.std.specs.List.{flat_map}
 use Rattle.std.specs.Result.{result_ok}
@@ -23,7 +25,9 @@ use Rattle.iec_asdu.specs.Laws.{single_again, double_again, word_again, scaled_a
 use Rattle.iec_asdu.specs.Types.{element_value, tag_stamp, layout_at}
 use Rattle.iec_asdu.specs.Asdu.{Asdu, monitor_types, asdu_meaning}
 use Rattle.iec_asdu.specs.Grammar.{IsAddress, IsInformation, AreApart, AreInSequence, AreObjects}
-use Rattle.iec_asdu.specs.Spelling.{element_kind, type_of, element_spelling, tag_octets, spelling, address_octets, information_octets, object_octets, objects_octets, identification_at, qualifier_of, list_spelling}
+use Rattle.iec_asdu.specs.Spelling.{element_kind, type_of, element_spelling, tag_octets, spelling}
+use Rattle.iec_asdu.specs.Spelling.{address_octets, information_octets, object_octets}
+use Rattle.iec_asdu.specs.Spelling.{objects_octets, identification_at, qualifier_of, list_spelling}
 use Rattle.iec_asdu.specs.Fitting.{AreAlike, AreConsecutive}
 use Rattle.iec_asdu.specs.Packing.{type_at, is_in_sequence, taken_of, packed_spelling}
 use Rattle.iec_asdu.proofs.Lengths.{element_long, tag_long}

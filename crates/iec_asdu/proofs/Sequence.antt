@@ -1,5 +1,6 @@
 -- Whether an ASDU stands under SQ 1: where those behind the first one go on from it, and SQ 0 carries no more.
-use Rattle.std.proofs.Common.{◌≡◌, ℕ, suc, ◌+◌, ◌-◌, ◌<◌, ◌≤◌, ◌&&◌, nat_le, true, false, List, [], ◌∷◌, length, get_or, take, refl, sym, ap, subst, ◌∙◌, arith}
+use Rattle.std.proofs.Common.{◌≡◌, ℕ, suc, ◌+◌, ◌-◌, ◌<◌, ◌≤◌, ◌&&◌, nat_le, true, false}
+use Rattle.std.proofs.Common.{List, [], ◌∷◌, length, get_or, take, refl, sym, ap, subst, ◌∙◌, arith}
 use Rattle.std.proofs.lemmas.Bool.Decides.{nat_tests}
 use Rattle.std.proofs.lemmas.List.{length-take, take-take}
 use Rattle.gw_model.specs.declared.observation.Observation.{Observation}
@@ -7,9 +8,11 @@ use Rattle.gw_model.specs.Clocks.{Clocks}
 use Rattle.iec_asdu.specs.declared.types.MonitorType.{MonitorType}
 use Rattle.iec_asdu.specs.Types.{type_length}
 use Rattle.iec_asdu.specs.Fitting.{AreAlike}
-use Rattle.iec_asdu.specs.Packing.{type_at, room_apart, room_in_sequence, is_alike, consecutive_count, apart_count, in_sequence_count, is_in_sequence}
+use Rattle.iec_asdu.specs.Packing.{type_at, room_apart, room_in_sequence, is_alike}
+use Rattle.iec_asdu.specs.Packing.{consecutive_count, apart_count, in_sequence_count, is_in_sequence}
 use Rattle.iec_asdu.proofs.Carried.{alone_apart}
-use Rattle.iec_asdu.proofs.Counts.{sequence_counted, timed_counted, consecutive_are, consecutive_within, alike_within, alike_ends, alike_fewer, alike_more, alike_longest}
+use Rattle.iec_asdu.proofs.Counts.{sequence_counted, timed_counted, consecutive_are, consecutive_within}
+use Rattle.iec_asdu.proofs.Counts.{alike_within, alike_ends, alike_fewer, alike_more, alike_longest}
 
 -- so many go on from the first one, and fit behind it under SQ 1
 pub record GoOn (clocks : Clocks) (x : Observation) (xs : List Observation) (behind : ℕ) : Type 0 where

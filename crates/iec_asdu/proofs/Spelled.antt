@@ -1,5 +1,7 @@
 -- What octets mean is what they spell.
-use Rattle.std.proofs.Common.{◌≡◌, ◌↔◌, ℕ, zero, suc, ◌+◌, ◌*◌, ◌%◌, ◌<◌, ◌≤◌, ◌==◌, Bool, true, false, cond, List, [], ◌∷◌, ◌++◌, length, take, drop, Option, Some, None, refl, sym, ap, ◌∙◌, arith, length-append}
+use Rattle.std.proofs.Common.{◌≡◌, ◌↔◌, ℕ, zero, suc, ◌+◌, ◌*◌, ◌%◌, ◌<◌, ◌≤◌}
+use Rattle.std.proofs.Common.{◌==◌, Bool, true, false, cond, List, [], ◌∷◌, ◌++◌, length, take}
+use Rattle.std.proofs.Common.{drop, Option, Some, None, refl, sym, ap, ◌∙◌, arith, length-append}
 use Rattle.std.proofs.lemmas.Bool.{eqb-true, eq-eqb}
 use Rattle.std.specs.Prelude.{All}
 use Rattle.std.proofs.lemmas.List.Elements.{All-head, All-tail, All-nil, All-cons}
@@ -11,7 +13,8 @@ use Rattle.gw_model.specs.declared.observation.Observation.{Observation}
 use Rattle.gw_model.specs.Bits.{is_set}
 use Rattle.gw_model.specs.Optional.{◌>>=◌}
 use Rattle.iec_asdu.specs.Types.{Layout}
-use Rattle.iec_asdu.specs.Asdu.{Asdu, layout_of, size_of, address_at, observation_of, observation_at, objects_apart, objects_in_sequence, objects_of, asdu_meaning}
+use Rattle.iec_asdu.specs.Asdu.{Asdu, layout_of, size_of, address_at, observation_of, observation_at}
+use Rattle.iec_asdu.specs.Asdu.{objects_apart, objects_in_sequence, objects_of, asdu_meaning}
 use Rattle.iec_asdu.specs.Grammar.{IsAddress, IsInformation, AreApart, AreInSequence, AreObjects, IsAsdu}
 
 -- ---- steps of a reading

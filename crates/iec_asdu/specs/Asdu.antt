@@ -1,6 +1,7 @@
 -- What an ASDU with process information means (IEC 60870-5-101, 7.1 and 7.2): type identification, variable
 -- structure qualifier, cause, originator, common address, and information objects to the end.
-use Rattle.std.specs.Prelude.{ℕ, ◌+◌, ◌*◌, ◌%◌, Bool, true, false, List, [], ◌∷◌, ◌++◌, zero, suc, length, take, drop, map, Option, Some, None, ◌==◌, if◌then◌else◌, slice_index}
+use Rattle.std.specs.Prelude.{ℕ, ◌+◌, ◌*◌, ◌%◌, Bool, true, false, List, [], ◌∷◌, ◌++◌, zero, suc}
+use Rattle.std.specs.Prelude.{length, take, drop, map, Option, Some, None, ◌==◌, if◌then◌else◌, slice_index}
 use Rattle.gw_model.specs.Optional.{◌>>=◌}
 use Rattle.gw_model.specs.declared.point.Stamp.{Stamp}
 use Rattle.gw_model.specs.declared.observation.Value.{Value}

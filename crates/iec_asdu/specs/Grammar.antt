@@ -1,6 +1,7 @@
 -- Which octets spell an ASDU with process information (IEC 60870-5-101, 7.1 and 7.2), said of its texts one after
 -- another, apart from any reading.
-use Rattle.std.specs.Prelude.{◌≡◌, ℕ, ◌+◌, ◌*◌, ◌%◌, ◌<◌, Bool, true, false, List, [], ◌∷◌, ◌++◌, length, Some, All}
+use Rattle.std.specs.Prelude.{◌≡◌, ℕ, ◌+◌, ◌*◌, ◌%◌, ◌<◌, Bool, true}
+use Rattle.std.specs.Prelude.{false, List, [], ◌∷◌, ◌++◌, length, Some, All}
 use Rattle.gw_model.specs.declared.observation.Observation.{Observation}
 use Rattle.gw_model.specs.Bits.{is_set}
 use Rattle.iec_asdu.specs.Types.{Layout}

@@ -1,5 +1,6 @@
 -- The laws of the elements: what is written fills the element, and is read again.
-use Rattle.std.specs.Prelude.{◌≡◌, ℕ, ℤ, ◌==◌, if◌then◌else◌, ◌+◌, ◌/◌, ◌%◌, ◌<◌, Bool, true, false, Some, None, length, refl, IsTrue, nat_lt, ◌&&◌, not}
+use Rattle.std.specs.Prelude.{◌≡◌, ℕ, ℤ, ◌==◌, if◌then◌else◌, ◌+◌, ◌/◌, ◌%◌, ◌<◌}
+use Rattle.std.specs.Prelude.{Bool, true, false, Some, None, length, refl, IsTrue, nat_lt, ◌&&◌, not}
 use Rattle.std.proofs.Common.{arith, ap, ◌∙◌, pos, negsuc}
 use Rattle.std.specs.Prelude.{FitsSigned}
 use Rattle.std.proofs.lemmas.Int.{to_z-of_z, ints}
@@ -14,7 +15,9 @@ use Rattle.iec_asdu.specs.declared.elements.ScaledValue.{ScaledValue}
 use Rattle.iec_asdu.specs.declared.elements.CounterReading.{CounterReading}
 use Rattle.gw_model.specs.Bits.{bit, is_set}
 use Rattle.iec_asdu.specs.Bits.{quality_bits, quality_of_bits, descriptor, descriptor_quality, counter_bits, counter_quality}
-use Rattle.iec_asdu.specs.Elements.{single_spelling, single_meaning, IsSingleFit, double_spelling, double_meaning, IsDoubleFit, word_spelling, word_meaning, IsWordFit, scaled_spelling, scaled_meaning, IsScaledFit, counter_spelling, counter_meaning, IsCounterFit}
+use Rattle.iec_asdu.specs.Elements.{single_spelling, single_meaning, IsSingleFit, double_spelling, double_meaning}
+use Rattle.iec_asdu.specs.Elements.{IsDoubleFit, word_spelling, word_meaning, IsWordFit, scaled_spelling}
+use Rattle.iec_asdu.specs.Elements.{scaled_meaning, IsScaledFit, counter_spelling, counter_meaning, IsCounterFit}
 
 pub single_fills : (x : SinglePoint) → length (single_spelling x) ≡ 1
 single_fills x = refl

@@ -1,6 +1,7 @@
 -- How many observations from the front of a list one ASDU carries, and under which SQ (IEC 60870-5-101, 7.2.2). An ASDU
 -- has at most 249 octets: its header has six of them, and an address three.
-use Rattle.std.specs.Prelude.{ℕ, suc, ◌+◌, ◌/◌, min, Bool, ◌&&◌, ◌==◌, nat_le, if◌then◌else◌, List, [], ◌∷◌, take}
+use Rattle.std.specs.Prelude.{ℕ, suc, ◌+◌, ◌/◌, min, Bool, ◌&&◌, ◌==◌}
+use Rattle.std.specs.Prelude.{nat_le, if◌then◌else◌, List, [], ◌∷◌, take}
 use Rattle.std.specs.Option.{is_some}
 use Rattle.gw_model.specs.declared.observation.Observation.{Observation}
 use Rattle.gw_model.specs.Clocks.{Clocks}

@@ -1,5 +1,6 @@
 -- An ASDU read from left to right: its meaning, or the first fault.
-use Rattle.std.specs.Prelude.{ℕ, zero, suc, ◌+◌, ◌*◌, ◌%◌, Bool, List, [], ◌∷◌, length, take, drop, ok_or, Result, Ok, Err, ◌==◌, true, false, nat_lt, slice_index, if◌then◌else◌}
+use Rattle.std.specs.Prelude.{ℕ, zero, suc, ◌+◌, ◌*◌, ◌%◌, Bool, List, [], ◌∷◌, length, take, drop, ok_or}
+use Rattle.std.specs.Prelude.{Result, Ok, Err, ◌==◌, true, false, nat_lt, slice_index, if◌then◌else◌}
 use Rattle.gw_model.specs.Outcome.{◌>>=◌}
 use Rattle.gw_model.specs.declared.observation.Observation.{Observation}
 use Rattle.iec_asdu.specs.declared.fault.AsduFault.{AsduFault}

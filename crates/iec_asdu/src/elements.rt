@@ -1,7 +1,10 @@
 //! The information elements of IEC 60870-5-101, 7.2.6, that carry a value and its quality.
 ghost use Rattle.std.specs.Prelude.{◌≡◌, ◌/◌, ◌%◌, ◌==◌, false, Some, None, if◌then◌else◌};
 ghost use Rattle.iec_asdu.specs.Bits.{quality_bits, quality_of_bits, descriptor, descriptor_quality, counter_bits, counter_quality};
-ghost use Rattle.iec_asdu.specs.Elements.{single_spelling, single_meaning, IsSingleFit, double_spelling, double_meaning, IsDoubleFit, word_spelling, word_meaning, IsWordFit, scaled_spelling, scaled_meaning, IsScaledFit, counter_spelling, counter_meaning, IsCounterFit};
+ghost use Rattle.iec_asdu.specs.Elements.{single_spelling, single_meaning, IsSingleFit};
+ghost use Rattle.iec_asdu.specs.Elements.{double_spelling, double_meaning, IsDoubleFit, word_spelling};
+ghost use Rattle.iec_asdu.specs.Elements.{word_meaning, IsWordFit, scaled_spelling, scaled_meaning};
+ghost use Rattle.iec_asdu.specs.Elements.{IsScaledFit, counter_spelling, counter_meaning, IsCounterFit};
 
 use gw_model::{Element, Quality};
 

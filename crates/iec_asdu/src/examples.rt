@@ -6,7 +6,10 @@ ghost use Rattle.iec_asdu.specs.declared.fault.AsduFault.TheVariants.{Short, Lon
 ghost use Rattle.iec_asdu.specs.Asdu.{monitor_types, asdu_meaning};
 ghost use Rattle.iec_asdu.specs.Packing.{apart_count, in_sequence_count, packed_spelling};
 ghost use Rattle.iec_asdu.specs.Spelling.{spelling};
-ghost use Rattle.iec_asdu.specs.Example.{meaning, reading, good, invalid, all_flags, invalid_not_topical, overflow, carry, not_topical, asdu, untimed_observation, under, timed_observation, doubtful_observation, single_on, double_on, single_event, packing, rooms_apart, rooms_in_sequence};
+ghost use Rattle.iec_asdu.specs.Example.{meaning, reading, good, invalid, all_flags, invalid_not_topical};
+ghost use Rattle.iec_asdu.specs.Example.{overflow, carry, not_topical, asdu, untimed_observation, under};
+ghost use Rattle.iec_asdu.specs.Example.{timed_observation, doubtful_observation, single_on, double_on};
+ghost use Rattle.iec_asdu.specs.Example.{single_event, packing, rooms_apart, rooms_in_sequence};
 
 /// What the octets of some ASDUs mean.
 #[tactic(auto, unfolding(crate::specs::Asdu::asdu_meaning, crate::specs::Asdu::objects_of, crate::specs::Asdu::objects_apart, crate::specs::Asdu::objects_in_sequence))]

@@ -1,5 +1,6 @@
 //! What holds of every ASDU.
-ghost use Rattle.std.specs.Prelude.{◌≡◌, ◌↔◌, ℕ, ◌<◌, ◌≤◌, Bool, List, [], ◌∷◌, ◌++◌, length, take, Some, All};
+ghost use Rattle.std.specs.Prelude.{◌≡◌, ◌↔◌, ℕ, ◌<◌, ◌≤◌, Bool, List};
+ghost use Rattle.std.specs.Prelude.{[], ◌∷◌, ◌++◌, length, take, Some, All};
 ghost use Rattle.std.specs.Int.{w16, to_le_bytes};
 ghost use Rattle.gw_model.specs.declared.observation.Observation.{Observation};
 ghost use Rattle.iec_asdu.specs.Types.{Layout};

@@ -2,7 +2,8 @@
 ghost use Rattle.std.specs.Prelude.{◌≡◌, ◌+◌, ◌-◌, ◌≤◌, ◌∷◌, false, take, is_some, IfSome};
 ghost use Rattle.gw_time.specs.Rule.{clocks_of};
 ghost use Rattle.iec_asdu.specs.Types.{type_length};
-ghost use Rattle.iec_asdu.specs.Packing.{type_at, room_apart, room_in_sequence, is_alike, consecutive_count, in_sequence_count, is_in_sequence};
+ghost use Rattle.iec_asdu.specs.Packing.{type_at, room_apart, room_in_sequence, is_alike};
+ghost use Rattle.iec_asdu.specs.Packing.{consecutive_count, in_sequence_count, is_in_sequence};
 
 use crate::sizes::{ADDRESS_OCTETS, ASDU_OCTETS, HEADER_OCTETS};
 use crate::types::{ElementKind, MonitorType};

@@ -1,5 +1,6 @@
 //! Writing ASDUs with process information.
-ghost use Rattle.std.specs.Prelude.{◌≡◌, ◌+◌, ◌*◌, ◌<◌, ◌≤◌, ◌∷◌, ◌++◌, length, take, drop, is_some, All, IfSome, IsSomeAnd};
+ghost use Rattle.std.specs.Prelude.{◌≡◌, ◌+◌, ◌*◌, ◌<◌, ◌≤◌, ◌∷◌, ◌++◌};
+ghost use Rattle.std.specs.Prelude.{length, take, drop, is_some, All, IfSome, IsSomeAnd};
 ghost use Rattle.std.specs.List.{flat_map};
 ghost use Rattle.std.specs.Int.{w16, to_le_bytes};
 ghost use Rattle.gw_model.specs.Fit.{HasWidth, IsFit};
@@ -8,7 +9,8 @@ ghost use Rattle.gw_time.specs.Rule.{clocks_of};
 ghost use Rattle.iec_asdu.specs.Asdu.{monitor_types, asdu_meaning};
 ghost use Rattle.iec_asdu.specs.Packing.{type_at, alike_count, apart_count, in_sequence_count, is_in_sequence, taken_of, packed_spelling};
 ghost use Rattle.iec_asdu.specs.Types.{identification_by, type_length};
-ghost use Rattle.iec_asdu.specs.Spelling.{element_spelling, element_octets, address_octets, object_octets, object_octets_with, objects_octets, qualifier_of};
+ghost use Rattle.iec_asdu.specs.Spelling.{element_spelling, element_octets, address_octets, object_octets};
+ghost use Rattle.iec_asdu.specs.Spelling.{object_octets_with, objects_octets, qualifier_of};
 ghost use Rattle.iec_asdu.specs.Buffer.{Writes};
 
 use crate::elements::{BitString, CounterReading, DoublePoint, ScaledValue, SinglePoint};

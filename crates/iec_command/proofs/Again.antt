@@ -5,7 +5,8 @@ use Rattle.iec_command.specs.declared.command.Action.{Action}
 use Rattle.iec_command.specs.declared.command.Action.TheVariants.{Single, Double, Setpoint, Interrogation, CounterInterrogation, Read}
 use Rattle.iec_command.specs.declared.command.Command.{Command}
 use Rattle.iec_command.specs.declared.fault.CommandFault.{CommandFault}
-use Rattle.iec_command.specs.Commands.{cause_octet, single_octet, single_of, double_octet, double_of, setpoint_octets, setpoint_of, spelling, command_of, IsWhole, mirrored}
+use Rattle.iec_command.specs.Commands.{cause_octet, single_octet, single_of, double_octet, double_of}
+use Rattle.iec_command.specs.Commands.{setpoint_octets, setpoint_of, spelling, command_of, IsWhole, mirrored}
 use Rattle.iec_command.proofs.Octets.{cause_same, negative_same, test_same, single_same, double_same, setpoint_same}
 
 abbrev command : ℕ → Bool → Bool → ℕ → ℕ → ℕ → Action → Command

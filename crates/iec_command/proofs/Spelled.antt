@@ -1,5 +1,7 @@
 -- What is read is spelled so, and its fields have the bits of their places.
-use Rattle.std.proofs.Common.{◌≡◌, ℕ, suc, ◌+◌, ◌*◌, ◌/◌, ◌%◌, ◌<◌, Bool, true, false, not, ◌||◌, eqb, nat_lt, List, [], ◌∷◌, length, Result, Ok, Err, IfOk, refl, sym, ap, subst, arith, ltb-false, eqb-true}
+use Rattle.std.proofs.Common.{◌≡◌, ℕ, suc, ◌+◌, ◌*◌, ◌/◌, ◌%◌, ◌<◌, Bool, true, false}
+use Rattle.std.proofs.Common.{not, ◌||◌, eqb, nat_lt, List, [], ◌∷◌, length, Result, Ok, Err}
+use Rattle.std.proofs.Common.{IfOk, refl, sym, ap, subst, arith, ltb-false, eqb-true}
 use Rattle.std.specs.Prelude.{slice_index}
 use Rattle.std.proofs.lemmas.Bool.{not-false}
 use Rattle.std.specs.Int.{w16, from_le_bytes}
@@ -8,7 +10,8 @@ use Rattle.gw_model.specs.Octets.{AreOctets}
 use Rattle.iec_command.specs.declared.command.Command.{Command}
 use Rattle.iec_command.specs.declared.fault.CommandFault.{CommandFault}
 use Rattle.iec_command.specs.declared.fault.CommandFault.TheVariants.{Short, Long, UnknownType, Count}
-use Rattle.iec_command.specs.Commands.{type_of, element_of, spelling, is_known, element_length, action_of, command_in, unless, command_of, IsWholeAction, IsWhole}
+use Rattle.iec_command.specs.Commands.{type_of, element_of, spelling, is_known, element_length}
+use Rattle.iec_command.specs.Commands.{action_of, command_in, unless, command_of, IsWholeAction, IsWhole}
 use Rattle.iec_command.proofs.Octets.{cause_again, single_again, double_again, setpoint_again, cast_fits}
 
 -- ---- an element

@@ -1,5 +1,7 @@
 -- From the numbers alone a window keeps what the whole connection comes to.
-use Rattle.std.proofs.Common.{◌≡◌, ℕ, ◌+◌, ◌-◌, ◌%◌, ◌<◌, ◌≤◌, ◌↔◌, IsTrue, Bool, true, false, cond, leb, ltb, List, [], ◌∷◌, ◌++◌, length, drop, Option, Some, slice_get, arith, refl, sym, ◌∙◌, ap, inl, inr}
+use Rattle.std.proofs.Common.{◌≡◌, ℕ, ◌+◌, ◌-◌, ◌%◌, ◌<◌, ◌≤◌, ◌↔◌, IsTrue, Bool}
+use Rattle.std.proofs.Common.{true, false, cond, leb, ltb, List, [], ◌∷◌, ◌++◌, length, drop}
+use Rattle.std.proofs.Common.{Option, Some, slice_get, arith, refl, sym, ◌∙◌, ap, inl, inr}
 use Rattle.std.specs.Prelude.{◌&&◌, ◌==◌}
 use Rattle.std.proofs.lemmas.Bool.{cases_Bool, leb-true, le-leb, ltb-true, true≢false}
 use Rattle.std.proofs.lemmas.List.{length-append, length-drop, drop-append-le, drop-drop, drop_all}
@@ -7,7 +9,9 @@ use Rattle.iec_window.specs.declared.limits.Limits.{Limits}
 use Rattle.iec_window.specs.Counts.{WindowCounts, sent_in_all}
 use Rattle.iec_window.specs.Sequence.{Acknowledges, new_acknowledgements, is_right_receive}
 use Rattle.iec_window.specs.Steps.{first_of}
-use Rattle.iec_window.specs.History.{Transmission, SentI, SentS, SentTest, GotI, GotS, GotConfirmation, GotOther, sent_at, got_at, beyond, acknowledged_by, receipted_by, waiting_at, owed_at, heard_at, test_at, counts_of, is_right, is_legal, legal, step, window_counts}
+use Rattle.iec_window.specs.History.{Transmission, SentI, SentS, SentTest, GotI, GotS, GotConfirmation, GotOther}
+use Rattle.iec_window.specs.History.{sent_at, got_at, beyond, acknowledged_by, receipted_by, waiting_at, owed_at}
+use Rattle.iec_window.specs.History.{heard_at, test_at, counts_of, is_right, is_legal, legal, step, window_counts}
 use Rattle.iec_window.proofs.Numbers.{ahead_leaves, ahead_within, within_ahead, named_leaves}
 use Rattle.iec_window.proofs.Right.{both, right_split, right_names, named_right}
 

@@ -1,10 +1,13 @@
 -- A connection as the list of what was sent and received, the newest first (IEC 60870-5-104, 5.1 and 5.2); what of it
 -- is legal; and what that comes to, read off the whole list.
-use Rattle.std.specs.Prelude.{ℕ, ◌+◌, ◌-◌, ◌%◌, ◌==◌, ◌&&◌, Bool, true, nat_lt, nat_le, List, [], ◌∷◌, ◌++◌, length, drop, Option, Some, None, slice_get, if◌then◌else◌}
+use Rattle.std.specs.Prelude.{ℕ, ◌+◌, ◌-◌, ◌%◌, ◌==◌, ◌&&◌, Bool, true, nat_lt, nat_le, List, []}
+use Rattle.std.specs.Prelude.{◌∷◌, ◌++◌, length, drop, Option, Some, None, slice_get, if◌then◌else◌}
 use Rattle.iec_window.specs.declared.limits.Limits.{Limits}
 use Rattle.iec_window.specs.Counts.{WindowCounts}
 use Rattle.iec_window.specs.Sequence.{numbers}
-use Rattle.iec_window.specs.Steps.{counts_at_start, first_of, counts_after_frame, counts_after_s, counts_after_i, counts_after_sending_s, counts_after_sending_i, counts_after_sending_test, counts_after_confirmation}
+use Rattle.iec_window.specs.Steps.{counts_at_start, first_of, counts_after_frame, counts_after_s}
+use Rattle.iec_window.specs.Steps.{counts_after_i, counts_after_sending_s, counts_after_sending_i}
+use Rattle.iec_window.specs.Steps.{counts_after_sending_test, counts_after_confirmation}
 
 -- SentI: an I format was sent, at that moment; SentS: an S format; SentTest: a TESTFR act, at that moment
 -- GotI: an I format came with this N(S) and N(R), at that moment; GotS: an S format with this N(R)

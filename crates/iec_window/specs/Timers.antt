@@ -1,5 +1,6 @@
 -- The timers t1, t2 and t3 (IEC 60870-5-104, 5.1 and 5.2), and the window w (5.5).
-use Rattle.std.specs.Prelude.{ℕ, ◌+◌, Bool, false, ◌||◌, ◌&&◌, nat_lt, nat_le, is_none, Option, Some, None, slice_get, if◌then◌else◌}
+use Rattle.std.specs.Prelude.{ℕ, ◌+◌, Bool, false, ◌||◌, ◌&&◌, nat_lt, nat_le}
+use Rattle.std.specs.Prelude.{is_none, Option, Some, None, slice_get, if◌then◌else◌}
 use Rattle.iec_window.specs.Counts.{WindowCounts}
 use Rattle.iec_window.specs.declared.due.Due.{Due}
 use Rattle.iec_window.specs.declared.due.Due.TheVariants as due

@@ -2,7 +2,8 @@
 ghost use Rattle.std.specs.Prelude.{◌≡◌, ◌∷◌, [], true, false, map, Some, Ok, Err};
 ghost use Rattle.iec_window.specs.Sequence.{send_number, is_right_send, is_right_receive};
 ghost use Rattle.iec_window.specs.Timers.{t1_passed, owes_ack, due_at};
-ghost use Rattle.iec_window.specs.Steps.{counts_at_start, counts_after_s, answer_to_i, counts_after_i, counts_after_sending_i, counts_after_sending_test};
+ghost use Rattle.iec_window.specs.Steps.{counts_at_start, counts_after_s, answer_to_i, counts_after_i};
+ghost use Rattle.iec_window.specs.Steps.{counts_after_sending_i, counts_after_sending_test};
 ghost use Rattle.iec_window.specs.History.{SentI, GotI, GotS, legal, waiting_at};
 ghost use Rattle.iec_window.specs.Examples.{usual, sender_counts, receiver_counts};
 ghost use Rattle.iec_window.specs.declared.fault.WindowFault.TheVariants.{WrongSend, WrongReceive};

@@ -1,9 +1,13 @@
 //! The window of one end of a connection.
-ghost use Rattle.std.specs.Prelude.{◌≡◌, ℕ, ◌+◌, ◌^◌, ◌<◌, ◌≤◌, ◌↔◌, [], true, IsTrue, IfOk, OnOk, nat_lt, length};
+ghost use Rattle.std.specs.Prelude.{◌≡◌, ℕ, ◌+◌, ◌^◌, ◌<◌, ◌≤◌, ◌↔◌};
+ghost use Rattle.std.specs.Prelude.{[], true, IsTrue, IfOk, OnOk, nat_lt, length};
 ghost use Rattle.iec_window.specs.Counts.{WindowCounts, sent_in_all};
-ghost use Rattle.iec_window.specs.Sequence.{Acknowledges, send_number, receive_number, is_right_send, new_acknowledgements, is_right_receive};
+ghost use Rattle.iec_window.specs.Sequence.{Acknowledges, send_number, receive_number};
+ghost use Rattle.iec_window.specs.Sequence.{is_right_send, new_acknowledgements, is_right_receive};
 ghost use Rattle.iec_window.specs.Timers.{has_passed, t1_passed, owes_ack, owes_test, due_at};
-ghost use Rattle.iec_window.specs.Steps.{counts_at_start, counts_after_frame, answer_to_s, counts_after_s, counts_after_right_s, answer_to_i, counts_after_i, counts_after_sending_s, counts_after_sending_i, counts_after_sending_test, counts_after_confirmation};
+ghost use Rattle.iec_window.specs.Steps.{counts_at_start, counts_after_frame, answer_to_s, counts_after_s};
+ghost use Rattle.iec_window.specs.Steps.{counts_after_right_s, answer_to_i, counts_after_i, counts_after_sending_s};
+ghost use Rattle.iec_window.specs.Steps.{counts_after_sending_i, counts_after_sending_test, counts_after_confirmation};
 
 use crate::due::Due;
 use crate::fault::WindowFault;

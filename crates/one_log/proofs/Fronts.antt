@@ -1,18 +1,21 @@
 -- What the holders of pens may add, and what they know then.
-use Rattle.std.proofs.Common.{◌≡◌, ℕ, ◌+◌, ◌<◌, ◌≤◌, Bool, false, cond, List, [], ◌∷◌, ◌++◌, length, Option, Some, None, refl, ap, sym, subst, ◌∙◌, arith, length-append}
+use Rattle.std.proofs.Common.{◌≡◌, ℕ, ◌+◌, ◌<◌, ◌≤◌, Bool, false, cond, List, [], ◌∷◌, ◌++◌}
+use Rattle.std.proofs.Common.{length, Option, Some, None, refl, ap, sym, subst, ◌∙◌, arith, length-append}
 use Rattle.std.specs.Prelude.{reverse}
 use Rattle.std.specs.List.{cons_option}
 use mathlib.Core.List.{IsPrefix}
 use Rattle.logbook.specs.Pages.{Book, Step, View, cell}
 use Rattle.logbook.specs.declared.tokens.Pen.{Pen}
 use Rattle.one_log.specs.Follows.{Follows}
-use Rattle.one_log.specs.Rules.{Adds, HasTurn, IsPenOf, entries_in, entry_in, head_keys, lane_keys, lane_of, lanes_in, newest, older, visit_in, visits, with_entry}
+use Rattle.one_log.specs.Rules.{Adds, HasTurn, IsPenOf, entries_in, entry_in, head_keys, lane_keys}
+use Rattle.one_log.specs.Rules.{lane_of, lanes_in, newest, older, visit_in, visits, with_entry}
 use Rattle.one_log.specs.declared.link.Link.{Link}
 use Rattle.one_log.specs.declared.link.Link.TheVariants.{Begun, Turn, Visited}
 use Rattle.one_log.proofs.Adding.{Keeps}
 use Rattle.one_log.proofs.Cells.{IsHome}
 use Rattle.one_log.proofs.Keeping.{begun_keeps, turn_keeps, visited_keeps}
-use Rattle.one_log.proofs.Pasts.{SameEnd, entries_then, more_keys, more_visits, none_added, past_then, picked, prefix_trans, same_end, same_lane, same_number}
+use Rattle.one_log.proofs.Pasts.{SameEnd, entries_then, more_keys, more_visits, none_added}
+use Rattle.one_log.proofs.Pasts.{past_then, picked, prefix_trans, same_end, same_lane, same_number}
 
 older_is : (keys : List ℕ) (n : ℕ) → length keys ≡ n + 1 → length (older keys) ≡ n
 older_is [] n is = absurd (omega (arith, is))

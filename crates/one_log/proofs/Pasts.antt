@@ -1,5 +1,7 @@
 -- What stands in a log, and what was seen of it before.
-use Rattle.std.proofs.Common.{◌≡◌, ℕ, ◌<◌, ◌≤◌, ◌==◌, Bool, true, false, cond, List, [], ◌∷◌, ◌++◌, length, Option, Some, None, filter_map, refl, ap, sym, subst, ◌∙◌, arith, length-append, append_assoc}
+use Rattle.std.proofs.Common.{◌≡◌, ℕ, ◌<◌, ◌≤◌, ◌==◌, Bool, true, false, cond, List, []}
+use Rattle.std.proofs.Common.{◌∷◌, ◌++◌, length, Option, Some, None, filter_map, refl, ap}
+use Rattle.std.proofs.Common.{sym, subst, ◌∙◌, arith, length-append, append_assoc}
 use Rattle.std.specs.Prelude.{reverse}
 use Rattle.std.specs.List.{cons_option}
 use Rattle.std.proofs.lemmas.List.{reverse-append}
@@ -8,7 +10,8 @@ use Rattle.std.proofs.lemmas.Bool.{eq-eqb}
 use mathlib.Core.List.{IsPrefix}
 use Rattle.logbook.specs.Pages.{Cell, cell}
 use Rattle.one_log.specs.Follows.{of_lane}
-use Rattle.one_log.specs.Rules.{AreHome, entries_in, entry_in, head_key, head_keys, lane_in, lane_key, lane_keys, lanes_in, newest, older, visit_in, visits, with_entry}
+use Rattle.one_log.specs.Rules.{AreHome, entries_in, entry_in, head_key, head_keys, lane_in, lane_key}
+use Rattle.one_log.specs.Rules.{lane_keys, lanes_in, newest, older, visit_in, visits, with_entry}
 use Rattle.one_log.specs.declared.link.Link.{Link}
 use Rattle.one_log.specs.declared.link.Link.TheVariants.{Begun, Turn, Visited}
 use Rattle.one_log.proofs.Cells.{whole}

@@ -1,5 +1,6 @@
 -- The rule of the log, and what its steps tell. A log is oldest first, and a past is a log newest first.
-use Rattle.std.specs.Prelude.{ℕ, ◌≡◌, ◌≤◌, ◌+◌, ◌==◌, cond, true, false, List, [], ◌∷◌, ◌++◌, length, reverse, Option, Some, None, filter_map}
+use Rattle.std.specs.Prelude.{ℕ, ◌≡◌, ◌≤◌, ◌+◌, ◌==◌, cond, true, false, List, []}
+use Rattle.std.specs.Prelude.{◌∷◌, ◌++◌, length, reverse, Option, Some, None, filter_map}
 use mathlib.Core.List.{IsPrefix}
 use Rattle.logbook.specs.Pages.{Cell, cell, Step, View, Book, Named, may_make, may_write}
 use Rattle.logbook.specs.declared.tokens.Pen.{Pen}

@@ -3,8 +3,11 @@
 
 ghost use Rattle.std.specs.Prelude.{◌≡◌, [], ◌∷◌, codes, None, Some, false, true};
 ghost use Rattle.clap.specs.Words.{fault_of};
-ghost use Rattle.clap.specs.declared.error.ErrorKind.TheVariants.{DisplayHelp, InvalidSubcommand, MissingRequiredArgument, MissingSubcommand, UnknownArgument, ValueValidation};
-ghost use Rattle.gw_command_line.specs.CommandLine.{gateway, no_options, spelled, to_check, to_pcap, to_points, to_replay, to_run, to_translate};
+ghost use Rattle.clap.specs.declared.error.ErrorKind.TheVariants.{DisplayHelp, InvalidSubcommand};
+ghost use Rattle.clap.specs.declared.error.ErrorKind.TheVariants.{MissingRequiredArgument, MissingSubcommand};
+ghost use Rattle.clap.specs.declared.error.ErrorKind.TheVariants.{UnknownArgument, ValueValidation};
+ghost use Rattle.gw_command_line.specs.CommandLine.{gateway, no_options, spelled, to_check, to_pcap};
+ghost use Rattle.gw_command_line.specs.CommandLine.{to_points, to_replay, to_run, to_translate};
 
 /// Five lines that ask for something, and five that are refused, with the kinds of error that may
 /// say so. A word that is no subcommand may be called an unknown argument too.

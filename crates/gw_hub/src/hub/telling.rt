@@ -2,7 +2,10 @@
 ghost use Rattle.std.specs.Prelude.{◌≡◌, ◌-◌, ◌≤◌, [], true, is_some, length, slice_get, IsTrue, Some, if◌then◌else◌};
 ghost use Rattle.gw_control.specs.Controls.{refusal_of, CanAnswer};
 ghost use Rattle.gw_steps.specs.Controls.{answer_to, asked_by, order_due};
-ghost use Rattle.gw_steps.specs.Effects.{all_due, brings, clients_due, done_by, effects_of_apdu, effects_of_fragment, effects_of_tick, ending_of, ends_session, fate_by, is_accepted, lost, no_effects, one_where, outstations_due, task_answered, task_polled, told_unless_fault, waiting_for, with_due};
+ghost use Rattle.gw_steps.specs.Effects.{all_due, brings, clients_due, done_by, effects_of_apdu};
+ghost use Rattle.gw_steps.specs.Effects.{effects_of_fragment, effects_of_tick, ending_of, ends_session};
+ghost use Rattle.gw_steps.specs.Effects.{fate_by, is_accepted, lost, no_effects, one_where, outstations_due};
+ghost use Rattle.gw_steps.specs.Effects.{task_answered, task_polled, told_unless_fault, waiting_for, with_due};
 ghost use Rattle.gw_steps.specs.Queries.{is_poll_due};
 ghost use Rattle.gw_hub.specs.Hub.{told_behind, verdict_by, verdict_in};
 ghost use Rattle.gw_steps.specs.Steps.{can_be_counted, can_order, command_of, is_ordering, needs};

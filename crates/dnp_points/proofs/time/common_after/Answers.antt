@@ -3,7 +3,8 @@ use Rattle.dnp_points.specs.Meaning.{last_or}
 use Rattle.dnp_points.proofs.Table.{no_times}
 use Rattle.dnp_points.proofs.Steps.{no_objects, time_inside, synchronized_last, other_last}
 use Rattle.dnp_points.proofs.time.common_after.Goals as goal
-use Rattle.dnp_points.proofs.time.common_after.Goals.{then-header-ne-COMMON_TIME-via-then-header-ne-COMMON_TIME, then-header-ne-COMMON_TIME-via-else-header-ne-COMMON_TIME+then-header-eq0}
+use Rattle.dnp_points.proofs.time.common_after.Goals.{then-header-ne-COMMON_TIME-via-then-header-ne-COMMON_TIME}
+use Rattle.dnp_points.proofs.time.common_after.Goals.{then-header-ne-COMMON_TIME-via-else-header-ne-COMMON_TIME+then-header-eq0}
 
 pub returns-then-header-ne-COMMON_TIME-clause-last : goal.returns-then-header-ne-COMMON_TIME-clause-last
 returns-then-header-ne-COMMON_TIME-clause-last c =

@@ -1,7 +1,8 @@
 use Rattle.std.proofs.Common.{◌∙◌, inl, inr, subst, true, false, arith}
 use Rattle.gw_input.specs.Reading.{Brings}
 use Rattle.gw_input.specs.declared.reading.Piece.{Piece}
-use Rattle.gw_input.proofs.AnsweringLaws.{after_line, after_nothing, after_part, answered_at_end, at_end, at_first, front_stays, if_ok, stopped, told}
+use Rattle.gw_input.proofs.AnsweringLaws.{after_line, after_nothing, after_part, answered_at_end}
+use Rattle.gw_input.proofs.AnsweringLaws.{at_end, at_first, front_stays, if_ok, stopped, told}
 use Rattle.gw_input.proofs.answering.answer_lines.Goals as goal
 use Rattle.gw_input.proofs.answering.answer_lines.Goals.{in-Nothing, in-Line+in_ok-answer-in-Line+else-not-branch}
 

@@ -6,7 +6,8 @@ use Rattle.gw_entries.specs.Ranges.{IsWithin}
 use Rattle.gw_map.specs.Settings.{distinct, is_among}
 use Rattle.gw_map.proofs.Known.{with, common_of, distinct-more, known-none, known-some, all-more}
 use Rattle.gw_map.proofs.common_addresses.known_addresses.Goals as goal
-use Rattle.gw_map.proofs.common_addresses.known_addresses.Goals.{then-not-contains+in_ok-push, else-not-contains, then-is_empty+in_ok-push-2, else-is_empty}
+use Rattle.gw_map.proofs.common_addresses.known_addresses.Goals.{then-not-contains+in_ok-push, else-not-contains}
+use Rattle.gw_map.proofs.common_addresses.known_addresses.Goals.{then-is_empty+in_ok-push-2, else-is_empty}
 
 pub loop-outstation-init : goal.loop-outstation-init
 loop-outstation-init c = record { known = c.in_ok-known.ensures.items; within = rw c.in_ok-known.ensures.items tt }

@@ -6,7 +6,8 @@ use Rattle.gw_time.specs.Rule.{clocks_of}
 use Rattle.gw_time.proofs.Clocks.{window_is_of_shown, shown_nanos, shown_has_timestamp}
 use Rattle.gw_time.proofs.Rules.{zone_clocks}
 use Rattle.gw_time.proofs.shown.shown_at.Goals as goal
-use Rattle.gw_time.proofs.shown.shown_at.Goals.{In_ok-timestamp, then-year-lt2000-via-then-year-lt2000, then-year-lt2000-via-else-year-lt2000+then-year-gt2099}
+use Rattle.gw_time.proofs.shown.shown_at.Goals.{In_ok-timestamp, then-year-lt2000-via-then-year-lt2000}
+use Rattle.gw_time.proofs.shown.shown_at.Goals.{then-year-lt2000-via-else-year-lt2000+then-year-gt2099}
 
 pub returns-in_err-timestamp-clause-window : goal.returns-in_err-timestamp-clause-window
 returns-in_err-timestamp-clause-window c =

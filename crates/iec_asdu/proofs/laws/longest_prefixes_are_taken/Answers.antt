@@ -1,4 +1,5 @@
-use Rattle.iec_asdu.proofs.Carried.{taken_fits, taken_longest, taken_of_some, taken_of_within, taken_of_one, packed_short, packed_spelling_first}
+use Rattle.iec_asdu.proofs.Carried.{taken_fits, taken_longest, taken_of_some, taken_of_within}
+use Rattle.iec_asdu.proofs.Carried.{taken_of_one, packed_short, packed_spelling_first}
 use Rattle.iec_asdu.proofs.laws.longest_prefixes_are_taken.Goals as goal
 
 pub returns : goal.returns

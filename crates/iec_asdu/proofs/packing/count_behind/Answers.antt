@@ -3,7 +3,8 @@ use Rattle.gw_time.specs.Rule.{clocks_of}
 use Rattle.iec_asdu.specs.Packing.{consecutive_count}
 use Rattle.iec_asdu.proofs.Counts.{nothing, consecutive_stops, consecutive_leaves, consecutive_goes_on, consecutive_none}
 use Rattle.iec_asdu.proofs.packing.count_behind.Goals as goal
-use Rattle.iec_asdu.proofs.packing.count_behind.Goals.{then-from-expected-via-then-from-expected, then-from-expected-via-else-from-expected+then-not-is_alike}
+use Rattle.iec_asdu.proofs.packing.count_behind.Goals.{then-from-expected-via-then-from-expected}
+use Rattle.iec_asdu.proofs.packing.count_behind.Goals.{then-from-expected-via-else-from-expected+then-not-is_alike}
 
 pub returns-then-from-expected : goal.returns-then-from-expected
 returns-then-from-expected c =

@@ -6,9 +6,14 @@ use Rattle.iec_asdu.specs.declared.types.MonitorType.{MonitorType}
 use Rattle.iec_asdu.specs.Types.{type_length}
 use Rattle.iec_asdu.specs.Packing.{type_at, room_apart, apart_count}
 use Rattle.iec_asdu.proofs.Counts.{nothing, consecutive_within}
-use Rattle.iec_asdu.proofs.Sequence.{they_go_on, timed_apart, alone_in_list, single_apart, more_apart, enough_in_sequence, apart_fills, apart_within, apart_ends, apart_goes_on}
+use Rattle.iec_asdu.proofs.Sequence.{they_go_on, timed_apart, alone_in_list, single_apart, more_apart}
+use Rattle.iec_asdu.proofs.Sequence.{enough_in_sequence, apart_fills, apart_within, apart_ends, apart_goes_on}
 use Rattle.iec_asdu.proofs.packing.sequence_behind.Goals as goal
-use Rattle.iec_asdu.proofs.packing.sequence_behind.Goals.{Joined-else-behind-room_apart, then-kind-via-then-kind, then-kind-via-else-kind+then-is_empty, else-behind-room_apart-via-then-behind-room_apart+then-behind-others+else-is_alike, else-behind-room_apart-via-then-behind-room_apart+else-behind-others, else-behind-room_apart-via-else-behind-room_apart}
+use Rattle.iec_asdu.proofs.packing.sequence_behind.Goals.{Joined-else-behind-room_apart, then-kind-via-then-kind}
+use Rattle.iec_asdu.proofs.packing.sequence_behind.Goals.{then-kind-via-else-kind+then-is_empty}
+use Rattle.iec_asdu.proofs.packing.sequence_behind.Goals.{else-behind-room_apart-via-then-behind-room_apart+then-behind-others+else-is_alike}
+use Rattle.iec_asdu.proofs.packing.sequence_behind.Goals.{else-behind-room_apart-via-then-behind-room_apart+else-behind-others}
+use Rattle.iec_asdu.proofs.packing.sequence_behind.Goals.{else-behind-room_apart-via-else-behind-room_apart}
 
 pub returns-then-kind-clause-sequence : goal.returns-then-kind-clause-sequence
 returns-then-kind-clause-sequence c =

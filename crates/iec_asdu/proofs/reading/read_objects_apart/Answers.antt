@@ -1,8 +1,10 @@
-use Rattle.std.proofs.Common.{◌≡◌, ◌∙◌, ◌+◌, ◌-◌, ◌≤◌, ◌||◌, false, ◌++◌, ◌∷◌, [], suc, length, arith, rules}
+use Rattle.std.proofs.Common.{◌≡◌, ◌∙◌, ◌+◌, ◌-◌, ◌≤◌, ◌||◌, false}
+use Rattle.std.proofs.Common.{◌++◌, ◌∷◌, [], suc, length, arith, rules}
 use Rattle.gw_time.specs.Rule.{clocks_of}
 use Rattle.iec_asdu.specs.Types.{layout_at, type_length}
 use Rattle.iec_asdu.specs.Reading.{read_apart}
-use Rattle.iec_asdu.proofs.ObjectLoop.{told_of, further, is_right, all_stored, neither, object_fault, apart_object, behind_object, apart_goes_on, apart_fails, apart_done}
+use Rattle.iec_asdu.proofs.ObjectLoop.{told_of, further, is_right, all_stored, neither, object_fault}
+use Rattle.iec_asdu.proofs.ObjectLoop.{apart_object, behind_object, apart_goes_on, apart_fails, apart_done}
 use Rattle.iec_asdu.proofs.reading.read_objects_apart.Goals as goal
 
 pub returns-in-Err : goal.returns-in-Err

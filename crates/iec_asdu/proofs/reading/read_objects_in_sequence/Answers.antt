@@ -2,7 +2,8 @@ use Rattle.std.proofs.Common.{◌≡◌, ◌∙◌, ◌+◌, ◌-◌, ◌||◌, 
 use Rattle.gw_time.specs.Rule.{clocks_of}
 use Rattle.iec_asdu.specs.Types.{layout_at, type_length}
 use Rattle.iec_asdu.specs.Reading.{read_in_sequence}
-use Rattle.iec_asdu.proofs.ObjectLoop.{told_of, further, is_right, all_stored, neither, object_fault, sequence_object, sequence_goes_on, sequence_fails, sequence_done}
+use Rattle.iec_asdu.proofs.ObjectLoop.{told_of, further, is_right, all_stored, neither, object_fault}
+use Rattle.iec_asdu.proofs.ObjectLoop.{sequence_object, sequence_goes_on, sequence_fails, sequence_done}
 use Rattle.iec_asdu.proofs.reading.read_objects_in_sequence.Goals as goal
 
 pub returns-in-Err : goal.returns-in-Err

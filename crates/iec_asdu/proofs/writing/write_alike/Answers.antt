@@ -1,4 +1,5 @@
-use Rattle.std.proofs.Common.{◌≡◌, ◌≢◌, Bool, false, not, sym, ap, subst, ◌∙◌, length, get_or, arith, is_some, Option, List, ℕ}
+use Rattle.std.proofs.Common.{◌≡◌, ◌≢◌, Bool, false, not, sym, ap, subst, ◌∙◌}
+use Rattle.std.proofs.Common.{length, get_or, arith, is_some, Option, List, ℕ}
 use denote.Enum.Bare.{sameb}
 use mathlib.Core.Bool.{beq}
 use Rattle.iec_asdu.specs.contracts.types.ElementKind.{the_type}

@@ -1,4 +1,5 @@
-use Rattle.std.proofs.Common.{◌≡◌, ◌%◌, rules, List, ℕ, ◌+◌, ◌++◌, ◌∷◌, [], length, min, take, sym, ap, subst, ◌∙◌, append_assoc, arith}
+use Rattle.std.proofs.Common.{◌≡◌, ◌%◌, rules, List, ℕ, ◌+◌, ◌++◌, ◌∷◌, [], length}
+use Rattle.std.proofs.Common.{min, take, sym, ap, subst, ◌∙◌, append_assoc, arith}
 use Rattle.std.proofs.lemmas.List.{length-append}
 use Rattle.std.specs.Io.KnownBytes.{Appends}
 use Rattle.gw_ends.specs.Framed.{framed}

@@ -9,7 +9,8 @@ use Rattle.gw_model.specs.declared.observation.Observation.{Observation}
 use Rattle.gw_station.specs.Frames.{client_after_apdu}
 use Rattle.gw_steps.specs.declared.step.Step.TheVariants as steps
 use Rattle.gw_map.specs.Settings.{Setup, station_clocks}
-use Rattle.gw_steps.specs.Steps.{after, can_order, can_rise, client_answered, client_up, command_of, is_beginning, is_ordering, latest, one_if, outcome, raised}
+use Rattle.gw_steps.specs.Steps.{after, can_order, can_rise, client_answered, client_up, command_of}
+use Rattle.gw_steps.specs.Steps.{is_beginning, is_ordering, latest, one_if, outcome, raised}
 use Rattle.gw_parts.specs.Clients.{event_at}
 use Rattle.gw_hub.specs.declared.orders.Sender.{Sender}
 use Rattle.gw_hub.specs.Hub.{KeepsToSession, controls_settled, said_to_sender, step_with}

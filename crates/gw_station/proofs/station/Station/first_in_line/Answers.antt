@@ -1,11 +1,13 @@
-use Rattle.std.proofs.Common.{◌≡◌, ℕ, ◌<◌, ◌≤◌, ◌⊎◌, false, List, [], ◌∷◌, Some, None, inl, inr, refl, sym, ap, subst, ◌∙◌, rules}
+use Rattle.std.proofs.Common.{◌≡◌, ℕ, ◌<◌, ◌≤◌, ◌⊎◌, false, List, [], ◌∷◌}
+use Rattle.std.proofs.Common.{Some, None, inl, inr, refl, sym, ap, subst, ◌∙◌, rules}
 use Rattle.std.specs.Prelude.{is_some, option_map, slice_get}
 use Rattle.std.proofs.lemmas.Option.{none-some}
 use Rattle.gw_station.specs.declared.sending.Sending.TheVariants as sendings
 use Rattle.gw_station.proofs.Line.{first_answer, first_older, first_part, first_news}
 use Rattle.gw_station.specs.Ring.{seen, Seat}
 use Rattle.gw_station.proofs.station.Station.first_in_line.Goals as goal
-use Rattle.gw_station.proofs.station.Station.first_in_line.Goals.{else-is_some-via-then-is_some+else-older-gt0, else-is_some-via-else-is_some}
+use Rattle.gw_station.proofs.station.Station.first_in_line.Goals.{else-is_some-via-then-is_some+else-older-gt0}
+use Rattle.gw_station.proofs.station.Station.first_in_line.Goals.{else-is_some-via-else-is_some}
 
 without_first : {A : Type 0} (xs : List A) → slice_get xs 0 ≡ None → xs ≡ []
 without_first [] none = refl
