@@ -1,7 +1,7 @@
 -- What an ASDU gets at once is what the definitions apart from the code say.
 use Rattle.std.proofs.Common.{◌≡◌, ◌↔◌, ℕ, ◌+◌, ◌==◌, Bool, true, false, not, ◌&&◌, ◌⊎◌, inl, inr, List}
 use Rattle.std.proofs.Common.{[], ◌∷◌, map, slice_get, Option, Some, None, Ok, refl, sym, ap, subst, ◌∙◌, arith}
-use Rattle.std.proofs.lemmas.Bool.{cases_Bool, true≢false, eqb-true, eq-eqb, and_parts, and_from, not-true, not_from_false}
+use Rattle.std.proofs.lemmas.Bool.{cases_Bool, eqb-true, eq-eqb, and_parts, and_from, not-true, not_from_false}
 use Rattle.std.proofs.lemmas.Option.{same_Some}
 use Rattle.std.specs.Prelude.{option_map}
 use Rattle.gw_model.specs.declared.observation.Observation.{Observation}
@@ -19,7 +19,7 @@ use Rattle.gw_judge.specs.Judging.{judged}
 use Rattle.gw_judge.specs.Acceptable.{IsCauseOf, IsAcceptable, object_for}
 use Rattle.gw_judge.proofs.Accepted.{accepted_exactly}
 use Rattle.gw_judge.proofs.Found.{first-at, place-first}
-use Rattle.gw_judge.proofs.Refusals.{comes_back, back_comes}
+use Rattle.gw_judge.proofs.Refusals.{back_comes, comes_back, not_so, so_not}
 use Rattle.gw_answers.specs.declared.outgoing.AsduAnswer.{AsduAnswer}
 use Rattle.gw_answers.specs.declared.outgoing.AsduAnswer.TheVariants.{Returned, Made}
 use Rattle.gw_answers.specs.declared.outgoing.OwnAsdu.TheVariants as outgoing
@@ -31,13 +31,6 @@ use Rattle.gw_answers.specs.AtOnce.{IsInterrogation, IsGeneral, BeginsAnswer, Is
 use Rattle.gw_answers.specs.AtOnce.{IsRefusedBy, IsRefusedAct, IsShownAt, IsRead, Gets}
 
 -- ---- interrogations
-
-not_so : (b : Bool) → (b ≡ true → ⊥) → b ≡ false
-not_so true never = absurd (never refl)
-not_so false never = refl
-
-so_not : (b : Bool) → b ≡ false → b ≡ true → ⊥
-so_not b e is = true≢false (sym is ∙ e)
 
 general_is : (action : Action) → is_general action ≡ true → IsGeneral action
 general_is (actions.Interrogation qualifier) e = eqb-true qualifier 20 e

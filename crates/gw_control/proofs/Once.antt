@@ -180,7 +180,7 @@ spent count n told after before fewer none = by_number (nat_lt count n) refl
     by_number true e = let nothing : before ≡ 0 = none (ltb-true _ _ e) in omega (arith, fewer, nothing)
     by_number false e = fewer
 
-one_at_most : (b : Bool) → one_if b ≤ 1
+pub one_at_most : (b : Bool) → one_if b ≤ 1
 one_at_most true = omega arith
 one_at_most false = omega arith
 
@@ -257,7 +257,7 @@ told_within setup n (m ∷ ms) v k =
           (stays_sound setup m v k),
     )
 
-none_held : (n count : ℕ) → held n (replicate count nothing_outgoing) ≡ 0
+pub none_held : (n count : ℕ) → held n (replicate count nothing_outgoing) ≡ 0
 none_held n zero = refl
 none_held n (suc count) = omega (arith, none_held n count)
 

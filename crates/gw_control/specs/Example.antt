@@ -9,11 +9,11 @@ use Rattle.gw_model.specs.declared.control.Ended.{Ended}
 use Rattle.gw_model.specs.declared.control.Order.{Order}
 use Rattle.gw_entries.specs.declared.row.Scale.{Scale}
 use Rattle.gw_entries.specs.declared.control.Control.{Control}
-use Rattle.gw_entries.specs.declared.control.Mode.TheVariants.{Direct, Sbo}
+use Rattle.gw_entries.specs.declared.control.Mode.TheVariants.{Sbo}
 use Rattle.gw_entries.specs.declared.control.Operates.TheVariants as operated
 use Rattle.gw_entries.specs.declared.control.Pulses.{Pulses}
-use Rattle.gw_entries.specs.declared.control.Rest.TheVariants.{Latch, Short}
-use Rattle.gw_entries.specs.Example.{station, outstation}
+use Rattle.gw_entries.specs.declared.control.Rest.TheVariants.{Short}
+use Rattle.gw_entries.specs.Example.{one_to_one, outstation, pulses, station, switch}
 use Rattle.gw_map.specs.Settings.{Setup}
 use Rattle.iec_command.specs.declared.command.Action.{Action}
 use Rattle.iec_command.specs.Example.{command, single, double, setpoint}
@@ -33,24 +33,9 @@ use Rattle.gw_control.specs.Controls.{order_at, outcome_ended_at, outcome_lost_a
 abbrev pub doubled : Scale
 doubled = record { num = 2; den = 1; num_from = lit≤ tt; num_to = lit≤ tt; den_from = lit≤ tt; den_to = lit≤ tt }
 
--- as it is
-abbrev pub one_to_one : Scale
-one_to_one = record { num = 1; den = 1; num_from = lit≤ tt; num_to = lit≤ tt; den_from = lit≤ tt; den_to = lit≤ tt }
-
 -- two thirds of it
 abbrev pub two_thirds : Scale
 two_thirds = record { num = 2; den = 3; num_from = lit≤ tt; num_to = lit≤ tt; den_from = lit≤ tt; den_to = lit≤ tt }
-
-abbrev pub pulses : Pulses
-pulses = record {
-  rest = Latch;
-  short_ms = 500;
-  long_ms = 2000;
-  short_from = lit≤ tt;
-  short_to = lit≤ tt;
-  long_from = lit≤ tt;
-  long_to = lit≤ tt;
-}
 
 -- at rest too
 abbrev pub pulsed : Pulses
@@ -60,21 +45,6 @@ pulsed = record pulses {
   short_to = lit≤ tt;
   long_from = lit≤ tt;
   long_to = lit≤ tt;
-}
-
-abbrev pub switch : Control
-switch = record {
-  outstation = 0;
-  index = 3;
-  common_address = 1;
-  address = 5001;
-  select = true;
-  mode = Direct;
-  operates = operated.Single pulses;
-  common_from = lit≤ tt;
-  common_to = lit≤ tt;
-  from = lit≤ tt;
-  to = lit≤ tt;
 }
 
 abbrev pub value : Scale → Control

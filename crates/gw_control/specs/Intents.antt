@@ -1,5 +1,5 @@
 -- What a command asks of an outstation, by the control that it is for.
-use Rattle.std.specs.Prelude.{ℕ, ℤ, pos, negsuc, ◌*ℤ◌, int_div, int_le, Bool, true, false}
+use Rattle.std.specs.Prelude.{ℕ, ℤ, pos, negsuc, int_le, Bool, true, false}
 use Rattle.std.specs.Prelude.{◌&&◌, ◌==◌, Option, Some, None, option_map, if◌then◌else◌}
 use Rattle.gw_model.specs.Optional.{◌>>=◌}
 use Rattle.gw_model.specs.declared.control.Shape.{Shape}
@@ -13,6 +13,7 @@ use Rattle.gw_entries.specs.declared.control.Operates.TheVariants as operated
 use Rattle.gw_entries.specs.declared.control.Pulses.{Pulses}
 use Rattle.gw_entries.specs.declared.control.Rest.{Rest}
 use Rattle.gw_entries.specs.declared.control.Rest.TheVariants as rests
+use Rattle.gw_entries.specs.Scaling.{scaled_by}
 use Rattle.gw_entries.specs.declared.row.Scale.{Scale}
 use Rattle.gw_map.specs.Settings.{Setup, control_at_from}
 use Rattle.iec_command.specs.declared.command.Action.{Action}
@@ -58,10 +59,6 @@ state_of state = if state == 1 then Some false else if state == 2 then Some true
 
 abbrev pub switched : Bool → ℕ → Pulses → Option Act
 switched on qualifier pulses = option_map (Switch on) (shape_of qualifier pulses)
-
--- a value multiplied by a scale, truncated toward zero
-abbrev pub scaled_by : Scale → ℤ → ℤ
-scaled_by scale z = int_div (z *ℤ pos scale.num) (pos scale.den)
 
 abbrev pub has_16_bits : ℤ → Bool
 has_16_bits z = int_le (negsuc 32767) z && int_le z (pos 32767)

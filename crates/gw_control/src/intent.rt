@@ -1,7 +1,7 @@
 //! What a command asks of an outstation, by its control.
 ghost use Rattle.std.specs.Prelude.{◌≡◌};
 ghost use Rattle.gw_control.specs.Controls.{element_refusal};
-ghost use Rattle.gw_control.specs.Intents.{act_of, control_for, is_of_type, scaled_by, shape_of, state_of, switched, value_of};
+ghost use Rattle.gw_control.specs.Intents.{act_of, control_for, is_of_type, shape_of, state_of, switched, value_of};
 
 use crate::refusal::Refusal;
 use gw_map::{Control, Operates, Pulses, Rest, Scale, Settings};
@@ -98,19 +98,12 @@ fn shape_of(qualifier: u8, pulses: &Pulses) -> Option<Shape>
     }
 }
 
-/// A set point multiplied by a scale, and truncated toward zero.
-fn scaled_by(scale: &Scale, value: i16) -> i64
-    ensures { result ≡ scaled_by scale.now value }
-{
-    i64::from(value) * i64::from(scale.num) / i64::from(scale.den)
-}
-
-/// The same, where it has 16 bits.
+/// A set point multiplied by a scale, if that has 16 bits.
 #[tactic(auto, using(crate::proofs::Bits::fitting, crate::proofs::Bits::unfitting))]
 fn value_of(value: i16, scale: &Scale) -> Option<i16>
     ensures { result ≡ value_of value scale.now }
 {
-    let scaled = scaled_by(scale, value);
+    let scaled = scale.scaled(i32::from(value));
     if scaled < -32768 || scaled > 32767 {
         None
     } else {

@@ -1,5 +1,6 @@
 pub mod Texts
 pub mod Shown
+pub mod Scaling
 pub mod Tables
 pub mod Rule
 pub mod Setup

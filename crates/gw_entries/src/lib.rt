@@ -12,6 +12,7 @@ mod outstation;
 mod points;
 mod row;
 mod rule;
+mod scaling;
 mod station;
 
 pub use control::{Control, Mode, Operates, Pulses, Rest};

@@ -12,21 +12,14 @@ use Rattle.gw_steps.specs.declared.effects.OrderEnd.{OrderEnd}
 use Rattle.gw_steps.specs.declared.step.Step.{Step}
 use Rattle.gw_steps.specs.declared.step.Step.TheVariants as steps
 use Rattle.gw_steps.specs.Example.{fragment_of, outstation_up, poll, pump, response, starting}
-use Rattle.gw_steps.specs.State.{State, at_first}
-use Rattle.gw_steps.specs.Steps.{after, outcome}
 use Rattle.gw_steps.specs.Runs.{Entry}
+use Rattle.gw_history.specs.Example.{history_of}
 use Rattle.gw_fates.specs.Fates.{effects_by}
 use Rattle.gw_fates.specs.Told.{told_in}
 
--- steps behind a past, where none has a fault
-abbrev pub made_after : State → List Entry → List Step → List Entry
-made_after s past [] = past
-made_after s past (step ∷ more) =
-    made_after (after setup s step) (record { step = step; reply = outcome setup s step } ∷ past) more
-
 -- the client is started and the outstation is up, and then these steps were made
 abbrev pub made : List Step → List Entry
-made ss = made_after (at_first setup) [] (starting ++ outstation_up ∷ ss)
+made ss = history_of setup (starting ++ outstation_up ∷ ss)
 
 -- 5002 is to be set to 1000, behind so many I formats
 abbrev pub sets : ℕ → Step

@@ -29,6 +29,7 @@ use Rattle.gw_control.specs.Moves.{Ends, Leaves, Loses, Takes, one_if, HasWholeC
 use Rattle.gw_control.proofs.Held.{end_frees_own, end_keeps_others, ended_frees, lost_frees, taking_holds}
 use Rattle.gw_control.proofs.Sounds.{stays_sound}
 use Rattle.gw_control.proofs.Whole.{ended_whole, lost_whole, stays_whole}
+use Rattle.gw_steps.proofs.Running.{if_some}
 use Rattle.gw_station.specs.declared.event.Said.TheVariants as saids
 use Rattle.gw_answers.specs.declared.outgoing.AsduAnswer.TheVariants.{Made}
 use Rattle.gw_station.specs.Answers.{client_told, places, places_taken, told, CanBeTold}
@@ -62,10 +63,6 @@ HoldsFor c v k = k.held ≡ 2 * orders_of c v
 
 abbrev pub AllHeld : List Client → Controls → Type 0
 AllHeld ks v = (c : ℕ) → IfSome (slice_get ks c) (HoldsFor c v)
-
-if_some : {A : Type 0} (P Q : A → Type 0) (x : Option A) → ((y : A) → P y → Q y) → IfSome x P → IfSome x Q
-if_some P Q None step all = tt
-if_some P Q (Some y) step all = step y all
 
 if_mapped : {A : Type 0} (f : A → A) (P : A → Type 0) (x : Option A) → IfSome x (λ (y : A). P (f y))
     → IfSome (option_map f x) P

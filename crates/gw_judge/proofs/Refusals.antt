@@ -24,11 +24,11 @@ use Rattle.gw_judge.proofs.Refused.{cut_short, cause_within}
 
 -- ---- a known type
 
-not_so : (b : Bool) → (b ≡ true → ⊥) → b ≡ false
+pub not_so : (b : Bool) → (b ≡ true → ⊥) → b ≡ false
 not_so true never = absurd (never refl)
 not_so false never = refl
 
-so_not : (b : Bool) → b ≡ false → b ≡ true → ⊥
+pub so_not : (b : Bool) → b ≡ false → b ≡ true → ⊥
 so_not b e is = true≢false (sym is ∙ e)
 
 -- a known type is that of the action that its element tells

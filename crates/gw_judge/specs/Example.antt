@@ -1,24 +1,17 @@
 -- The settings of the worked examples: station 1; single-point 4101, scaled value 4201 and integrated total 4301; a
 -- control by single commands at 5001 and one by set-point commands at 5002.
-use Rattle.std.specs.Prelude.{ℕ, true, false, List, [], ◌∷◌, map, refl}
+use Rattle.std.specs.Prelude.{ℕ, false, List, [], ◌∷◌, map, refl}
 use Rattle.std.proofs.Common.{lit≤}
 use Rattle.gw_model.specs.declared.point.Kind.TheVariants as kinds
 use Rattle.gw_entries.specs.declared.row.Row.{Row}
-use Rattle.gw_entries.specs.declared.row.Scale.{Scale}
 use Rattle.gw_entries.specs.declared.row.Show.TheVariants as shows
 use Rattle.gw_entries.specs.declared.control.Control.{Control}
-use Rattle.gw_entries.specs.declared.control.Mode.TheVariants.{Direct, Sbo}
+use Rattle.gw_entries.specs.declared.control.Mode.TheVariants.{Sbo}
 use Rattle.gw_entries.specs.declared.control.Operates.TheVariants as operated
-use Rattle.gw_entries.specs.declared.control.Pulses.{Pulses}
-use Rattle.gw_entries.specs.declared.control.Rest.TheVariants.{Latch}
-use Rattle.gw_entries.specs.Example.{station, outstation}
+use Rattle.gw_entries.specs.Example.{one_to_one, outstation, pulses, station, switch}
 use Rattle.gw_map.specs.Settings.{Setup}
 use Rattle.gw_judge.specs.declared.judging.Judged.{Judged}
 use Rattle.gw_judge.specs.Judging.{judged}
-
--- a value is shown, and set, as it is
-abbrev pub one_to_one : Scale
-one_to_one = record { num = 1; den = 1; num_from = lit≤ tt; num_to = lit≤ tt; den_from = lit≤ tt; den_to = lit≤ tt }
 
 abbrev pub binary_row : Row
 binary_row = record {
@@ -55,32 +48,6 @@ counter_row = record binary_row {
   to = lit≤ tt;
   shown = refl;
   scaled = refl;
-}
-
-abbrev pub pulses : Pulses
-pulses = record {
-  rest = Latch;
-  short_ms = 500;
-  long_ms = 2000;
-  short_from = lit≤ tt;
-  short_to = lit≤ tt;
-  long_from = lit≤ tt;
-  long_to = lit≤ tt;
-}
-
-abbrev pub switch : Control
-switch = record {
-  outstation = 0;
-  index = 3;
-  common_address = 1;
-  address = 5001;
-  select = true;
-  mode = Direct;
-  operates = operated.Single pulses;
-  common_from = lit≤ tt;
-  common_to = lit≤ tt;
-  from = lit≤ tt;
-  to = lit≤ tt;
 }
 
 abbrev pub setpoint : Control

@@ -1,7 +1,7 @@
 -- What ties the I formats that a client has acknowledged to its turns.
-use Rattle.std.proofs.Common.{◌≡◌, ℕ, ◌+◌, ◌-◌, ◌<◌, ◌≤◌, true, leb, ltb, List}
-use Rattle.std.proofs.Common.{◌∷◌, map, length, refl, sym, ap, ◌∙◌, arith, inl, inr}
-use Rattle.std.proofs.lemmas.Bool.{cases_Bool, le-leb, leb-true, ltb-true, true≢false}
+use Rattle.std.proofs.Common.{◌≡◌, ℕ, ◌+◌, ◌-◌, ◌<◌, ◌≤◌, true, ltb, List}
+use Rattle.std.proofs.Common.{◌∷◌, map, length, refl, ap, ◌∙◌, arith, inl, inr}
+use Rattle.std.proofs.lemmas.Bool.{cases_Bool, ltb-true}
 use Rattle.gw_model.specs.Clocks.{Clocks}
 use Rattle.gw_map.specs.Settings.{Setup, station_clocks}
 use Rattle.iec_apci.specs.declared.apdu.Apdu.{Apdu}
@@ -11,6 +11,7 @@ use Rattle.iec_apci.specs.declared.apdu.Signal.TheVariants.{StartAct, StartCon, 
 use Rattle.iec_window.specs.Counts.{WindowCounts}
 use Rattle.iec_window.specs.Sequence.{new_acknowledgements, is_right_receive}
 use Rattle.iec_window.proofs.Right.{right_split}
+use Rattle.iec_window.proofs.WholeConnection.{same_test}
 use Rattle.iec_window.proofs.Numbers.{ahead_leaves, ahead_within, within_ahead}
 use Rattle.gw_station.specs.declared.sending.Sending.{Sending}
 use Rattle.gw_station.specs.declared.sending.Sending.TheVariants as sendings
@@ -26,16 +27,6 @@ use Rattle.gw_laws.specs.Connection.{At, TimedTurn, turn_in}
 use Rattle.gw_laws.proofs.Links.{BecomesAt, Linked, TakesAt, linked_all}
 
 -- ---- N(R)
-
--- two tests that imply each other
-same_test : (a b c d : ℕ) → (a ≤ b → c ≤ d) → (c ≤ d → a ≤ b) → leb a b ≡ leb c d
-same_test a b c d there back = elim (cases_Bool (leb a b)) [
-  | inl is ↦ is ∙ sym (le-leb c d (there (leb-true a b is)))
-  | inr out ↦ elim (cases_Bool (leb c d)) [
-    | inl more ↦ absurd (true≢false (sym (le-leb a b (back (leb-true c d more))) ∙ out))
-    | inr none ↦ out ∙ sym none
-  ]
-]
 
 abbrev pub AcknowledgedTied : List TimedTurn → Client → Type 0
 AcknowledgedTied ts k = k.window.acknowledged ≡ acknowledged (map turn_in ts)

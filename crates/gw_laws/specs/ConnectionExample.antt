@@ -15,10 +15,9 @@ use Rattle.gw_steps.specs.declared.step.Step.{Step}
 use Rattle.gw_steps.specs.declared.step.Step.TheVariants as steps
 use Rattle.gw_steps.specs.declared.step.StepFault.{StepFault}
 use Rattle.gw_steps.specs.declared.step.StepFault.TheVariants.{Spent}
-use Rattle.gw_steps.specs.State.{State, at_first}
-use Rattle.gw_steps.specs.Steps.{outcome, after}
 use Rattle.gw_steps.specs.Runs.{Entry}
 use Rattle.gw_steps.specs.Example.{event, outstation_up, setup as usual}
+use Rattle.gw_history.specs.Example.{history_of}
 use Rattle.gw_laws.specs.Closes.{close_due}
 use Rattle.gw_laws.specs.Connection.{Connection, connection, turns}
 use Rattle.gw_laws.specs.Faults.{fault_due}
@@ -29,14 +28,8 @@ setup = record usual {
   controls = setpoint ∷ [];
 }
 
--- steps behind a past, where none has a fault
-abbrev pub made_after : State → List Entry → List Step → List Entry
-made_after s past [] = past
-made_after s past (step ∷ more) =
-    made_after (after setup s step) (record { step = step; reply = outcome setup s step } ∷ past) more
-
 abbrev pub passed : List Step → List Entry
-passed ss = made_after (at_first setup) [] ss
+passed ss = history_of setup ss
 
 -- the connection after steps
 abbrev pub reached : List Step → Connection

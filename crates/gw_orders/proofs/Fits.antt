@@ -21,8 +21,9 @@ use Rattle.dnp_app.proofs.Operated.{FitsObject}
 use Rattle.iec_command.specs.declared.command.Action.{Action}
 use Rattle.iec_command.specs.declared.command.Action.TheVariants.{Single, Double, Setpoint}
 use Rattle.iec_command.specs.declared.command.Command.{Command}
+use Rattle.gw_entries.specs.Scaling.{scaled_by}
 use Rattle.gw_control.specs.Intents.{act_of, control_for, if_of_type, is_of_type, has_16_bits}
-use Rattle.gw_control.specs.Intents.{scaled_by, shape_at_rest, state_of, switched, value_of}
+use Rattle.gw_control.specs.Intents.{shape_at_rest, state_of, switched, value_of}
 use Rattle.gw_orders.specs.Bonds.{HasShortIndex}
 
 abbrev FitsIf : Option Act → Type 0

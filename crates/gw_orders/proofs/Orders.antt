@@ -28,6 +28,7 @@ use Rattle.gw_control.specs.Intents.{act_of, control_for, intent_of}
 use Rattle.gw_control.specs.Moves.{one_if}
 use Rattle.gw_control.specs.Orders.{Outgoing, outgoing_with}
 use Rattle.gw_control.specs.Selections.{is_own, is_select}
+use Rattle.gw_control.proofs.Once.{one_at_most}
 use Rattle.gw_control.proofs.Keeps.{accepted}
 use Rattle.gw_station.specs.declared.event.Why.{Why}
 use Rattle.gw_station.specs.Client.{Client}
@@ -152,10 +153,6 @@ waits_new t a control act count o standing v short k is bonded there =
       of = record { execute = execute_for a control; at = found; client = refl; command = refl };
       unmarked = unmarked t (count + 1) (omega (arith, is)) bonded;
     }
-
-one_at_most : (b : Bool) → one_if b ≤ 1
-one_at_most true = omega arith
-one_at_most false = omega arith
 
 -- no outcome of the new number was told
 new_once : (t : Story) (masters : List Master) (v : Controls) (o : ℕ) (one : Accepted) (xs : List Outcome)

@@ -15,7 +15,8 @@ use Rattle.gw_entries.specs.declared.control.Operates.TheVariants as operated
 use Rattle.gw_entries.specs.declared.control.Pulses.{Pulses}
 use Rattle.iec_command.specs.declared.command.Action.{Action}
 use Rattle.iec_command.specs.declared.command.Action.TheVariants.{Single, Double, Setpoint}
-use Rattle.gw_control.specs.Intents.{act_of, scaled_by, shape_at_rest, shape_of, switched}
+use Rattle.gw_entries.specs.Scaling.{scaled_by}
+use Rattle.gw_control.specs.Intents.{act_of, shape_at_rest, shape_of, switched}
 use Rattle.gw_control.specs.Selections.{asks_same}
 use Rattle.gw_orders.specs.Selections.{has_16_bits, is_same, permits}
 

@@ -16,19 +16,12 @@ use Rattle.gw_station.specs.Example.{command, execute}
 use Rattle.gw_steps.specs.declared.step.Step.{Step}
 use Rattle.gw_steps.specs.declared.step.Step.TheVariants as steps
 use Rattle.gw_steps.specs.Example.{fragment_of, poll, response, solicited, started}
-use Rattle.gw_steps.specs.State.{State, at_first}
-use Rattle.gw_steps.specs.Steps.{outcome, after}
 use Rattle.gw_steps.specs.Runs.{Entry}
-
--- steps behind a past, where none has a fault
-abbrev pub made_after : State → List Entry → List Step → List Entry
-made_after s past [] = past
-made_after s past (step ∷ more) =
-    made_after (after setup s step) (record { step = step; reply = outcome setup s step } ∷ past) more
+use Rattle.gw_history.specs.Example.{history_of}
 
 -- the integrity poll was answered, and then these steps were made
 abbrev pub made : List Step → List Entry
-made ss = made_after (at_first setup) [] (started ++ poll ∷ fragment_of solicited ∷ ss)
+made ss = history_of setup (started ++ poll ∷ fragment_of solicited ∷ ss)
 
 -- an ASDU of client 0, behind so many I formats
 abbrev pub sends : ℕ → Asdu → Step

@@ -6,9 +6,8 @@ use Rattle.gw_map.specs.Settings.{Setup}
 use Rattle.gw_steps.specs.declared.step.Step.{Step}
 use Rattle.gw_steps.specs.declared.step.Step.TheVariants as steps
 use Rattle.gw_steps.specs.Example.{response, setup}
-use Rattle.gw_steps.specs.State.{State, at_first}
-use Rattle.gw_steps.specs.Steps.{outcome, after}
 use Rattle.gw_steps.specs.Runs.{Entry}
+use Rattle.gw_history.specs.Example.{history_of}
 use Rattle.gw_orders.specs.Talk.{next_number, talk}
 use Rattle.gw_orders.specs.Requests.{Due, due_at}
 
@@ -49,13 +48,8 @@ unsolicited moment first second = comes moment (0xD0 ∷ 0x82 ∷ first ∷ seco
 
 -- ---- runs
 
-abbrev pub made_after : Setup → State → List Entry → List Step → List Entry
-made_after s state past [] = past
-made_after s state past (step ∷ more) =
-    made_after s (after s state step) (record { step = step; reply = outcome s state step } ∷ past) more
-
 abbrev pub made : Poll → List Step → List Entry
-made poll ss = made_after (setup_of poll) (at_first (setup_of poll)) [] (steps.OutstationUp 0 5000 ∷ ss)
+made poll ss = history_of (setup_of poll) (steps.OutstationUp 0 5000 ∷ ss)
 
 -- what is due then at a moment, and by which number
 abbrev pub due_after : Poll → List Step → ℕ → Option Due

@@ -74,7 +74,8 @@ down_held one zero c none = tt
 down_held one (suc n) zero none = none
 down_held one (suc n) (suc c) none = down_held one n c none
 
-if_some : {A : Type 0} (P Q : A → Type 0) (x : Option A) → ((y : A) → P y → Q y) → IfSome x P → IfSome x Q
+-- what follows, if there is one
+pub if_some : {A : Type 0} (P Q : A → Type 0) (x : Option A) → ((y : A) → P y → Q y) → IfSome x P → IfSome x Q
 if_some P Q None step all = tt
 if_some P Q (Some y) step all = step y all
 

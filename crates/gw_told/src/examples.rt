@@ -1,4 +1,6 @@
 //! Worked runs: what the last step brought, and what it told.
+#![tactic(auto, unfolding(iec_command::specs::Commands::command_of, dnp_objects::specs::Headers::headers_from, dnp_objects::specs::Library::object_of))]
+
 ghost use Rattle.std.specs.Prelude.{◌≡◌, [], ◌∷◌, ◌++◌, false, map, Some, None, true};
 ghost use Rattle.gw_steps.specs.Example.{outstation_down, outstation_up, poll, pump};
 ghost use Rattle.gw_told.specs.Replies.{ended_by_fate};
@@ -16,7 +18,6 @@ ghost use Rattle.gw_told.specs.Example.{
 };
 
 /// Who has something to do, and who is told.
-#[tactic(auto, unfolding(iec_command::specs::Commands::command_of, dnp_objects::specs::Headers::headers_from, dnp_objects::specs::Library::object_of))]
 pub fn rousing_by_example()
     // The outstation comes up: its integrity poll is due.
     ensures up { is_newly_due [] ≡ true }
@@ -47,7 +48,6 @@ pub fn lateness_by_example()
 {}
 
 /// What the reply says of an order is its fate.
-#[tactic(auto, unfolding(iec_command::specs::Commands::command_of, dnp_objects::specs::Headers::headers_from, dnp_objects::specs::Library::object_of))]
 pub fn replies_by_example()
     ensures done { replied done ≡ Some (record { number = 1; done = true }) }
     ensures refused { replied refused ≡ Some (record { number = 2; done = false }) }
@@ -58,7 +58,6 @@ pub fn replies_by_example()
 {}
 
 /// Sessions that end: a client is told of the end of its own.
-#[tactic(auto, unfolding(iec_command::specs::Commands::command_of, dnp_objects::specs::Headers::headers_from, dnp_objects::specs::Library::object_of))]
 pub fn endings_by_example()
     // With its pumps done nothing is left to be put out; STOPDT act ends the session.
     ensures stands { is_client_told (pump ∷ poll ∷ []) ≡ false }

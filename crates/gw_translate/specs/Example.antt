@@ -10,6 +10,7 @@ use Rattle.gw_model.specs.declared.point.Stamp.{Stamp}
 use Rattle.gw_model.specs.declared.point.Stamp.TheVariants.{Untimed}
 use Rattle.gw_model.specs.declared.point.Report.{Report}
 use Rattle.gw_entries.specs.declared.row.Row.{Row}
+use Rattle.gw_entries.specs.Example.{one_to_one}
 use Rattle.gw_entries.specs.declared.row.Scale.{Scale}
 use Rattle.gw_entries.specs.declared.row.Show.{Show}
 use Rattle.gw_entries.specs.declared.row.Show.TheVariants as shows
@@ -63,10 +64,6 @@ timed_event flags on stamp = report kinds.Binary (Bit on) flags stamp true refl 
 
 abbrev pub static_value : ℕ → Bool → Report
 static_value flags on = report kinds.Binary (Bit on) flags Untimed false refl refl
-
--- a value is shown as it is
-abbrev pub one_to_one : Scale
-one_to_one = record { num = 1; den = 1; num_from = lit≤ tt; num_to = lit≤ tt; den_from = lit≤ tt; den_to = lit≤ tt }
 
 -- half of a value, and as many times a value as there may be
 abbrev pub halved : Scale

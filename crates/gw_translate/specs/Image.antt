@@ -1,5 +1,5 @@
 -- The image of a report: what clients are shown of it; and whether it is news.
-use Rattle.std.specs.Prelude.{ℤ, pos, negsuc, ◌*ℤ◌, int_div, Bool, ◌||◌, not, List, Option, is_some, if◌then◌else◌}
+use Rattle.std.specs.Prelude.{ℤ, pos, negsuc, Bool, ◌||◌, not, List, Option, is_some, if◌then◌else◌}
 use Rattle.std.specs.Option.{option_map}
 use Rattle.std.specs.Int.{w32, int_min, int_max, cast_unsigned}
 use Rattle.std.specs.Ordering.{int_eq}
@@ -10,6 +10,7 @@ use Rattle.gw_model.specs.declared.point.Stamp.TheVariants.{Untimed}
 use Rattle.gw_model.specs.declared.point.Report.{Report}
 use Rattle.gw_model.specs.declared.point.ObjectKey.{ObjectKey}
 use Rattle.gw_entries.specs.declared.row.Row.{Row}
+use Rattle.gw_entries.specs.Scaling.{scaled_by}
 use Rattle.gw_entries.specs.declared.row.Scale.{Scale}
 use Rattle.gw_entries.specs.declared.row.Show.{Show}
 use Rattle.gw_entries.specs.declared.row.Show.TheVariants as shows
@@ -22,10 +23,6 @@ use Rattle.gw_model.specs.Clocks.{Clocks}
 use Rattle.gw_map.specs.Settings.{row_from, row_object}
 use Rattle.gw_time.specs.Spelling.{tag_of}
 use Rattle.gw_translate.specs.Quality.{quality_of}
-
--- a value multiplied by a scale, truncated toward zero
-abbrev pub scaled_by : Scale → ℤ → ℤ
-scaled_by scale z = int_div (z *ℤ pos scale.num) (pos scale.den)
 
 -- the nearest value of 16 bits
 abbrev pub nearest_scaled_value : ℤ → ℤ

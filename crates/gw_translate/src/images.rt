@@ -4,7 +4,8 @@ ghost use Rattle.std.specs.Ordering.{int_eq};
 ghost use Rattle.gw_model.specs.Fit.{IsFit, IsInWindow};
 ghost use Rattle.gw_time.specs.Rule.{clocks_of};
 ghost use Rattle.gw_translate.specs.Quality.{quality_of};
-ghost use Rattle.gw_translate.specs.Image.{nearest_scaled_value, scaled_by, image_of, stamp_image};
+ghost use Rattle.gw_entries.specs.Scaling.{scaled_by};
+ghost use Rattle.gw_translate.specs.Image.{nearest_scaled_value, image_of, stamp_image};
 
 use gw_entries::{Row, Scale, Show};
 use gw_model::{Kind, Observation, Quality, Raw, Report, Stamp, Value};
@@ -46,13 +47,6 @@ pub fn quality(kind: Kind, flags: u8) -> Quality
     }
 }
 
-/// A value multiplied by a scale, truncated toward zero.
-fn scaled(number: i32, scale: Scale) -> i64
-    ensures { result ≡ scaled_by scale number }
-{
-    i64::from(number) * i64::from(scale.num) / i64::from(scale.den)
-}
-
 /// The nearest value of 16 bits.
 fn clamp(number: i64) -> i16
     ensures { result ≡ nearest_scaled_value number }
@@ -66,7 +60,7 @@ fn nearest(number: i32, scale: Scale) -> (i16, bool)
     ensures overflow { result.1
         ≡ not (int_eq (nearest_scaled_value (scaled_by scale number)) (scaled_by scale number)) }
 {
-    let scaled = scaled(number, scale);
+    let scaled = scale.scaled(number);
     let nearest = clamp(scaled);
     (nearest, i64::from(nearest) != scaled)
 }

@@ -100,7 +100,7 @@ waiting_at-le limits (frame ∷ older) = few_more limits frame (legal limits old
 -- ---- N(R)
 
 -- two tests that imply each other
-same_test : (a b c d : ℕ) → (a ≤ b → c ≤ d) → (c ≤ d → a ≤ b) → leb a b ≡ leb c d
+pub same_test : (a b c d : ℕ) → (a ≤ b → c ≤ d) → (c ≤ d → a ≤ b) → leb a b ≡ leb c d
 same_test a b c d there back = elim (cases_Bool (leb a b)) [
   | inl is ↦ is ∙ sym (le-leb c d (there (leb-true a b is)))
   | inr out ↦ elim (cases_Bool (leb c d)) [
