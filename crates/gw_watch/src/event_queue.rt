@@ -4,7 +4,7 @@ use gw_model::{Memory, Observation};
 use gw_threads::Bell;
 use gw_values::{Entry, WaitingEvents};
 use std::alloc::{AllocError, Global};
-use std::sync::atomic::{AtomicBool, AtomicU64, Ordering};
+use std::sync::atomic::{AtomicU64, Ordering};
 use std::sync::{Mutex, Wait};
 
 /// Spontaneous observations from the thread that follows them to the one that writes them. It is no buffer for control centres.
@@ -14,8 +14,6 @@ pub struct EventQueue {
     bell: Bell,
     /// How many were left out so far.
     left_out: AtomicU64,
-    /// Whether all were written that will be.
-    is_finished: AtomicBool,
 }
 
 impl EventQueue {
@@ -25,7 +23,6 @@ impl EventQueue {
             waiting: Mutex::new(WaitingEvents::new(alloc)?),
             bell: Bell::new(),
             left_out: AtomicU64::new(0),
-            is_finished: AtomicBool::new(false),
         })
     }
 
@@ -62,16 +59,6 @@ impl EventQueue {
     /// Whether nothing more comes.
     pub fn is_closed<R: Wait>(&self, rt: &R) -> bool {
         self.waiting.lock(rt).is_closed()
-    }
-
-    /// All are written that will be.
-    pub fn finish(&self) {
-        self.is_finished.store(true, Ordering::SeqCst);
-    }
-
-    /// Whether all are written that will be.
-    pub fn is_finished(&self) -> bool {
-        self.is_finished.load(Ordering::SeqCst)
     }
 
     /// Moves what waited longest behind others, so much at most. Whether nothing waits any more, and nothing will.
