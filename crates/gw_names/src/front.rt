@@ -1,4 +1,7 @@
-//! Texts that a spreadsheet would take for formulas.
+//! What a spreadsheet would take a text for.
+
+/// The mark that a spreadsheet may take for a separator of cells too, besides the comma.
+pub const OTHER_SEPARATOR: u8 = b';';
 
 /// Whether a text begins so that a spreadsheet takes it for a formula.
 fn begins_formula(text: &str) -> bool {

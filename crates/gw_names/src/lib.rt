@@ -4,6 +4,6 @@
 mod front;
 mod names;
 
-pub use front::{wants_apostrophe, without_apostrophe};
+pub use front::{OTHER_SEPARATOR, wants_apostrophe, without_apostrophe};
 pub use gw_text::Behind;
 pub use names::Names;

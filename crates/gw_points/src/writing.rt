@@ -4,7 +4,7 @@ use crate::matching::RowsOf;
 use csv::{Writer, WriterBuilder};
 use gw_lists::{COLUMNS, List, ListRow};
 use gw_map::{Control, Operates, Outstation, Pulses, Rest, Row, Scale, Settings, Show};
-use gw_names::wants_apostrophe;
+use gw_names::{OTHER_SEPARATOR, wants_apostrophe};
 use gw_profile::{control_word, kind_word, mode_word, show_word};
 use std::alloc::{AllocError, Global};
 
@@ -35,7 +35,10 @@ fn named_list_text(
     let rows = RowsOf::new(alloc, named, settings)?;
     let mut sheet = Sheet {
         alloc,
-        writer: WriterBuilder::new().from_writer(Vec::new(alloc)),
+        // The writer quotes a cell with the mark of its comments, as one with a separator.
+        writer: WriterBuilder::new()
+            .comment(Some(OTHER_SEPARATOR))
+            .from_writer(Vec::new(alloc)),
     };
     sheet.put_all(settings, &rows)?;
     sheet.into_text()

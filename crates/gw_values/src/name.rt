@@ -1,11 +1,8 @@
 //! What points and outstations are called.
 
 use csv::WriterBuilder;
-use gw_names::wants_apostrophe;
+use gw_names::{OTHER_SEPARATOR, wants_apostrophe};
 use std::alloc::{AllocError, Global};
-
-/// A mark that a spreadsheet may take for a separator too, besides the comma.
-const SEPARATOR: u8 = b';';
 
 /// What something is called; empty where it has no name.
 #[derive(Drop)]
@@ -37,7 +34,7 @@ fn field_of(alloc: Global, text: &str) -> Result<String, AllocError> {
 /// A cell as a field. The writer quotes one with the mark of its comments, as one with a separator.
 fn quoted(alloc: Global, cell: &str) -> Result<Vec<u8>, AllocError> {
     let mut writer = WriterBuilder::new()
-        .comment(Some(SEPARATOR))
+        .comment(Some(OTHER_SEPARATOR))
         .from_writer(Vec::new(alloc));
     writer.write_field(cell.as_bytes()).map_err(|_| AllocError)?;
     writer.into_inner().map_err(|_| AllocError)
