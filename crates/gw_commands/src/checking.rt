@@ -5,9 +5,10 @@ use crate::lists::{Named, refuse_list};
 use crate::refusal::{refuse_file, refuse_octets, tell_texts, write_text};
 use crate::settings_file::read_octets;
 use crate::system::System;
-use gw_checker::{CheckReport, Origin, read_settings, write_warnings};
+use gw_checker::{CheckReport, Origin, read_settings};
 use gw_command_line::VERSION;
 use gw_map::Settings;
+use gw_warnings::write_warnings;
 use sha2::{Digest, Sha256};
 use std::io;
 

@@ -6,8 +6,9 @@ use crate::host::Host;
 use crate::house::{House, is_made};
 use crate::passes::{Passes, PumpPass};
 use crate::sockets::ClientSocket;
+use gw_admission::{Lobby, Visit};
 use gw_journal::{Cause, JournalEvent};
-use gw_peers::{Desk, Lobby, Visit, shut};
+use gw_peers::{Desk, shut};
 use gw_readers::{
     Calls, Clock, Course, Gate, Pass, Step, Why, WorkerEnd, client_reader, client_writer,
 };

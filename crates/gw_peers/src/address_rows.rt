@@ -12,30 +12,30 @@ struct AddressRow<T> {
 
 /// Something for each of a few addresses, in the order in which they came.
 #[derive(Drop)]
-pub(crate) struct AddressRows<T> {
+pub struct AddressRows<T> {
     rows: Vec<AddressRow<T>>,
 }
 
 impl<T: Drop> AddressRows<T> {
     /// For no address.
-    pub(crate) fn new(alloc: Global) -> AddressRows<T> {
+    pub fn new(alloc: Global) -> AddressRows<T> {
         AddressRows {
             rows: Vec::new(alloc),
         }
     }
 
     /// How many addresses there are.
-    pub(crate) fn len(&self) -> usize {
+    pub fn len(&self) -> usize {
         self.rows.len()
     }
 
     /// Where an address stands, if it does.
-    pub(crate) fn position(&self, address: IpAddr) -> Option<usize> {
+    pub fn position(&self, address: IpAddr) -> Option<usize> {
         self.rows.iter().position(|row| row.address == address)
     }
 
     /// What is at a position.
-    pub(crate) fn get(&self, position: usize) -> Option<&T> {
+    pub fn get(&self, position: usize) -> Option<&T> {
         match self.rows.get(position) {
             Some(row) => Some(&row.value),
             None => None,
@@ -43,7 +43,7 @@ impl<T: Drop> AddressRows<T> {
     }
 
     /// The same, to be changed.
-    pub(crate) fn get_mut(&mut self, position: usize) -> Option<&mut T> {
+    pub fn get_mut(&mut self, position: usize) -> Option<&mut T> {
         match self.rows.get_mut(position) {
             Some(row) => Some(&mut row.value),
             None => None,
@@ -51,7 +51,7 @@ impl<T: Drop> AddressRows<T> {
     }
 
     /// Adds an address; where it stands, unless there is no memory for it.
-    pub(crate) fn push(&mut self, address: IpAddr, value: T) -> Option<usize> {
+    pub fn push(&mut self, address: IpAddr, value: T) -> Option<usize> {
         let position = self.rows.len();
         match self.rows.push(AddressRow { address, value }) {
             Ok(()) => Some(position),
@@ -60,14 +60,14 @@ impl<T: Drop> AddressRows<T> {
     }
 
     /// Puts an address in the place of another one.
-    pub(crate) fn replace(&mut self, position: usize, address: IpAddr, value: T) {
+    pub fn replace(&mut self, position: usize, address: IpAddr, value: T) {
         if let Some(row) = self.rows.get_mut(position) {
             *row = AddressRow { address, value };
         }
     }
 
     /// Forgets the address that came first.
-    pub(crate) fn forget_first(&mut self) {
+    pub fn forget_first(&mut self) {
         if !self.rows.is_empty() {
             let _ = self.rows.remove(0);
         }

@@ -2,13 +2,13 @@
 ghost use Rattle.std.specs.Prelude.{◌≡◌, ◌+◌, ◌*◌, ◌≤◌, IfOk, vec_len};
 ghost use Rattle.gw_server.specs.Roles.{actors_of, roles_of, AreFirst};
 
+use gw_admission::{Lobby, await_end};
 use gw_clock::Clock;
 use gw_connections::{
     Calls, ClientPasses, Course, Gate, Host, House, OutstationPasses, Pass, Passes, PollPass,
     PumpPass, clock, look_out, serve_outstation, serve_place,
 };
 use gw_model::{CLIENTS, Memory};
-use gw_peers::{Lobby, await_end};
 use gw_watch::{Site, follow, serve_status};
 
 /// How many threads serve the status: a request that comes slowly, or whose answer is taken slowly, keeps one of them.

@@ -6,12 +6,12 @@ mod duty;
 mod options;
 mod serving;
 
+pub use gw_admission::Network;
 pub use gw_clock::{Clock, SystemClock};
 pub use gw_connections::{
     Closed, Effects, Gate, Host, Observer, OpenGate, Place, Pumps, Reply, Step, StepFault, StepKind,
 };
 pub use gw_journal::{Journal, JournalEvent};
-pub use gw_peers::Network;
 pub use gw_watch::{EventQueue, Identity, ProcessFiles, Values};
 pub use options::Options;
 pub use serving::{journal_of, serve, serve_as};

@@ -1,6 +1,7 @@
 //! What is said of a run beside its settings.
 
-use gw_peers::{Door, Network, Plan};
+use gw_admission::{Door, Network};
+use gw_peers::Plan;
 use gw_watch::{EventQueue, Identity, ProcessFiles, Site, Values};
 use std::io::Stdin;
 use std::net::TcpListener;

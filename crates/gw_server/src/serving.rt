@@ -7,13 +7,14 @@ ghost use Rattle.gw_server.specs.Roles.{actors_of, roles_of, AreFirst};
 
 use crate::duty::{Duty, Returned, add_duties};
 use crate::options::Options;
+use gw_admission::{Lobby, accept};
 use gw_clock::Clock;
 use gw_connections::{Calls, Closed, Course, Gate, Host, House, Pass, Shared};
 use gw_hub::Hub;
 use gw_journal::Journal;
 use gw_map::Settings;
 use gw_model::{CLIENTS, Memory};
-use gw_peers::{Board, Desk, Lobby, Plan, accept, plans_of};
+use gw_peers::{Board, Desk, Plan, plans_of};
 use gw_running::close;
 use gw_shared::{Made, Opened, open_course};
 use gw_watch::{Identity, Site, Watched};

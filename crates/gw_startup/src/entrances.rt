@@ -2,9 +2,9 @@
 
 use crate::obstacle::{Obstacle, failure_at};
 use crate::unserved::Unserved;
+use gw_admission::Network;
 use gw_command_line::RunOptions;
 use gw_map::Settings;
-use gw_peers::Network;
 use std::alloc::Global;
 use std::net::{Net, TcpListener, TcpStream};
 

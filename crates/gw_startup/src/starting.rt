@@ -2,10 +2,10 @@
 
 use crate::source::Source;
 use crate::system::Environment;
-use gw_checker::{Warning, warnings_of};
 use gw_command_line::VERSION;
 use gw_journal::{Doubt, Journal, JournalEvent};
 use gw_map::Settings;
+use gw_warnings::{Warning, warnings_of};
 use std::alloc::{AllocError, Global};
 use std::env;
 use std::sync::Wait;

@@ -4,8 +4,9 @@ ghost use Rattle.std.specs.Prelude.{◌≤◌};
 use crate::event_queue::EventQueue;
 use crate::process::ProcessFiles;
 use crate::values::Values;
+use gw_admission::Door;
 use gw_model::OUTSTATIONS;
-use gw_peers::{Door, Plan};
+use gw_peers::Plan;
 use gw_status::Identity;
 use std::net::TcpListener;
 

@@ -3,9 +3,10 @@ ghost use Rattle.std.specs.Prelude.{None};
 
 use crate::asked_values::{answer_values, is_of_values, refuse_values};
 use crate::site::Site;
+use gw_admission::look_up_from_accept;
 use gw_http::{HttpRequest, Query, RequestFault, Resource, answer, receive, refuse};
 use gw_model::Memory;
-use gw_peers::{ClientCard, Desk, OutstationCard, Plan, look_up_from_accept, shut};
+use gw_peers::{ClientCard, Desk, OutstationCard, Plan, shut};
 use gw_status::{
     ClientState, ClientStatus, Health, Life, Metrics, OrderStatus, OutstationStatus, Page,
     ProcessStatus, Status, Verdict, is_alive,

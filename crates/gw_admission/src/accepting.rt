@@ -1,15 +1,14 @@
 //! Clients that connect.
 
-use crate::desk::Desk;
 use crate::door::Door;
-use crate::hold::Hold;
+use crate::listener::{look_up_from_accept, stay_in_accept};
 use crate::lobby::{Lobby, Visit};
 use crate::refusals::Refusals;
-use crate::tcp::{look_up_from_accept, stay_in_accept};
 use crate::waiting_visits::{WaitingVisit, WaitingVisits};
 use gw_clock::Clock;
 use gw_journal::{Failure, JournalEvent};
 use gw_model::Memory;
+use gw_peers::{Desk, Hold};
 use std::alloc::Global;
 use std::io::ErrorKind;
 use std::net::IpAddr;

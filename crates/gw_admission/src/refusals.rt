@@ -1,7 +1,7 @@
 //! Addresses that aren't allowed.
 
-use crate::address_rows::AddressRows;
 use gw_journal::Throttle;
+use gw_peers::AddressRows;
 use std::alloc::Global;
 use std::net::IpAddr;
 

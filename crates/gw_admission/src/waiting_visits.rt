@@ -1,8 +1,8 @@
 //! Clients that wait for a place.
 
-use crate::board::Board;
 use crate::lobby::Visit;
 use gw_model::Memory;
+use gw_peers::Board;
 use std::alloc::Global;
 use std::sync::Wait;
 
