@@ -1,7 +1,7 @@
 """Octets of DNP3 (IEEE Std 1815-2012) and of IEC 60870-5-104 and -101, as the examples beside this file write and read them.
 
-Nothing here knows a socket or a clock. The peers that judge the gateway in its tests (.ci/peers.py) have octets of their
-own, so that what judges it shares no slip with an example; `.ci/example_octets` compares the two.
+Nothing here knows a socket or a clock. The peers that judge the gateway in its tests (checks/peers.py) have octets of their
+own, so that what judges it shares no slip with an example; `checks/example_octets` compares the two.
 """
 import struct
 from enum import IntEnum, IntFlag

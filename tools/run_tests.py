@@ -2,7 +2,7 @@
 """Runs the tests in minutes, also where nothing is proved: ./test
 
 The program is the proved one where it stands, or else one without proof, which is built first; what can't be tried on that is
-named. Runs the scripts of .ci/scripts on it, and beside them the tests of the crates, built without proof. Ends with a line
+named. Runs the scripts of checks/scripts on it, and beside them the tests of the crates, built without proof. Ends with a line
 `N passed, N failed`, of scripts and crates, and with status 1 where one failed; 3 where there is no program. What each one
 wrote stands in out/test/.
 """
@@ -61,13 +61,13 @@ def scripts(program, is_proved):
     if not is_proved:
         environment["ASAN_OPTIONS"] = os.environ.get("ASAN_OPTIONS", CHECKS)
     parts, left_out = [], []
-    for line in (ROOT / ".ci/scripts").read_text().splitlines():
+    for line in (ROOT / "checks/scripts").read_text().splitlines():
         if not line or line.startswith("#"):
             continue
         name, beside, where, *words = line.split()
         kind, _, file = where.partition(":")
         if kind == "any" or kind == "proved" and is_proved and (not file or (ROOT / file).exists()):
-            parts.append(Part(name, [f".ci/{name}", *([] if is_proved else words)], ROOT, environment, beside == "alone"))
+            parts.append(Part(name, [f"checks/{name}", *([] if is_proved else words)], ROOT, environment, beside == "alone"))
         elif kind == "proved":
             left_out.append(name)
     return parts, left_out

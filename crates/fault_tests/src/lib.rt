@@ -1,5 +1,5 @@
 //! Tests of what is refused, fails or is at its end, through public calls: memory, a read, a write, a count. Those of
-//! `refusals` and `cores` hold with memory and with one allocation refused, as `.ci/refused_allocations` runs them.
+//! `refusals` and `cores` hold with memory and with one allocation refused, as `checks/refused_allocations` runs them.
 #![tactic(auto)]
 
 #[cfg(test)]

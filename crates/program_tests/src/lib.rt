@@ -1,5 +1,5 @@
 //! Tests of the programs' crates through their public calls: words, numbers, ends and sizes that no run of the program
-//! shows, what becomes of orders, and what a run is captured as. `transcripts/` and the scripts of `.ci/` have what the
+//! shows, what becomes of orders, and what a run is captured as. `transcripts/` and the scripts of `checks/` have what the
 //! programs write for lines.
 #![tactic(auto)]
 
