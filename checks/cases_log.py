@@ -177,7 +177,7 @@ def refused_in_a_second(scene: Scene) -> None:
 def unanswered(scene: Scene) -> None:
     """how many requests had no answer, and how many octets were skipped, is told"""
     scene.passed_over = TRANSFERS
-    outstation, link = scene.watched(response_ms=100)
+    outstation, link = scene.watched(response_ms=250)
     link.send(response(0))
     link.write(bytes(5))
     # It is looked each second, so two requests are over before it is looked again.
