@@ -1,5 +1,5 @@
 -- What a line's history has of the reader of an outstation.
-use Rattle.std.proofs.Common.{◌≡◌, ℕ, Bool, sym, ap, subst, ◌∙◌}
+use Rattle.std.proofs.Common.{ℕ, Bool, sym, ap, subst, ◌∙◌}
 use Rattle.std.specs.List.{AllByRecursion}
 use Rattle.one_log.specs.Follows.{Known}
 use Rattle.gw_map.specs.Settings.{Setup}

@@ -15,7 +15,7 @@ use Rattle.gw_ends.specs.declared.sent.Sending.{Sending}
 use Rattle.gw_ends.specs.Sent.{IsNew, is_cut_off}
 use Rattle.one_log.specs.Follows.{Known}
 use Rattle.gw_threads.specs.Calls.{AreCalls, Call, given_by}
-use Rattle.gw_readers.specs.declared.outstation_reading.Reading.{Reading}
+use Rattle.gw_readers.specs.declared.outstation_reading.OutstationReader.{OutstationReader}
 use Rattle.gw_threads.specs.Sends.{AreSent}
 
 -- a step is of a fragment of an outstation, or tells that it is lost
@@ -69,7 +69,8 @@ pub record ReadsAll (setup : Setup) (outstation : ℕ) (mine after : Pass) (old 
   pub cut_is : is_cut_off sends ≡ cut
 
 -- a reader went on so, from what it was to what it is
-abbrev pub ReadsFurther : {L N S R W C G K : Type 0} → Setup → Reading L N S R W C G K → Reading L N S R W C G K → Bool → Type 0
+abbrev pub ReadsFurther : {L N S R W C G K : Type 0} → Setup → OutstationReader L N S R W C G K
+    → OutstationReader L N S R W C G K → Bool → Type 0
 ReadsFurther setup old new cut = ReadsAll setup old.outstation old.pass new.pass old.front new.front cut
 
 -- and that is all that the worker sent since it joined the line

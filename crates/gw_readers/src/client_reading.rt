@@ -16,15 +16,15 @@ use std::sync::Wait;
 /// How many octets are read at once.
 const PIECE: usize = 4096;
 
-/// What the reader of a client works with.
+/// The reader of a client.
 #[derive(Drop)]
-struct Reading<'a, L: Course, S: Calls<L>, R: Wait, C: Clock, G: Gate> {
-    rt: &'a R,
-    shared: &'a S,
-    pass: Pass<L>,
-    client: u8,
-    clock: &'a C,
-    gate: &'a G,
+pub struct ClientReader<'a, L: Course, S: Calls<L>, R: Wait, C: Clock, G: Gate> {
+    pub rt: &'a R,
+    pub shared: &'a S,
+    pub pass: Pass<L>,
+    pub client: u8,
+    pub clock: &'a C,
+    pub gate: &'a G,
 }
 
 /// Makes a step of each APDU that comes from a client, until its octets end or are none, the core closes the
@@ -48,7 +48,7 @@ pub fn client_reader<'a, L: Course, S: Calls<L>, R: Wait, I: Incoming, C: Clock,
     // It ended by a failed read exactly where one failed, unless one had before.
     ensures failed { I.has_failed input.new ≡ (is_read_fault (Some result.1) || I.has_failed input.old) }
 {
-    let mut reading = Reading {
+    let mut reading = ClientReader {
         rt,
         shared,
         pass,
@@ -59,12 +59,12 @@ pub fn client_reader<'a, L: Course, S: Calls<L>, R: Wait, I: Incoming, C: Clock,
     let mut feed = ApduFeed::new(alloc);
     let end = reading.read_on(&mut feed, input);
     reading.lose(end);
-    let Reading { pass, .. } = reading;
+    let ClientReader { pass, .. } = reading;
     (pass, end)
 }
 
-impl<'a, L: Course, S: Calls<L>, R: Wait, C: Clock, G: Gate> Reading<'a, L, S, R, C, G> {
-    /// Piece after piece, until the worker is to end.
+impl<'a, L: Course, S: Calls<L>, R: Wait, C: Clock, G: Gate> ClientReader<'a, L, S, R, C, G> {
+    /// Turn after turn, until the worker is to end.
     fn read_on<I: Incoming>(&mut self, feed: &mut ApduFeed, input: &mut I) -> WorkerEnd
         requires drained { (reading_of_ending feed.old).apdus ≡ [] }
         ensures client { self.new.client ≡ self.old.client }
@@ -75,16 +75,16 @@ impl<'a, L: Course, S: Calls<L>, R: Wait, C: Clock, G: Gate> Reading<'a, L, S, R
     {
         let mut buffer = [0; PIECE];
         'pieces: for _ in self.rt.forever() {
-            if let Some(end) = self.read(feed, input, &mut buffer) {
+            if let Some(end) = self.turn(feed, input, &mut buffer) {
                 return end;
             }
         }
         unreachable!()
     }
 
-    /// One piece. How the worker ends, if it does.
+    /// One turn: takes what comes from the client, for which it waits as long as the input does. How the worker ends, if it does.
     #[tactic(auto, using(gw_ends::proofs::Failed::reading_fails, gw_ends::proofs::Failed::steps_read))]
-    fn read<I: Incoming>(
+    pub fn turn<I: Incoming>(
         &mut self,
         feed: &mut ApduFeed,
         input: &mut I,
@@ -112,8 +112,8 @@ impl<'a, L: Course, S: Calls<L>, R: Wait, C: Clock, G: Gate> Reading<'a, L, S, R
         }
     }
 
-    /// Tells the core that the connection is lost, unless the core closed it.
-    fn lose(&mut self, end: WorkerEnd)
+    /// Tells the core that the connection is lost, unless the core closed it: what follows the last turn.
+    pub fn lose(&mut self, end: WorkerEnd)
         ensures { Loses L.setup self.old.client self.old.pass self.new.pass end }
     {
         if let WorkerEnd::Closed(_) = end {

@@ -9,12 +9,14 @@ pub mod laws;
 mod link_check;
 mod outstation_reading;
 
-pub use client_reading::client_reader;
+pub use client_reading::{ClientReader, client_reader};
 pub use gw_threads::{
-    Arrival, Batch, Bell, Calls, Clock, CloseFault, Closed, Course, Effects, Entry, Figures, Front,
-    Gate, Head, Incoming, Kept, KeptStep, Line, LineCourse, Load, Machine, Made, Observer,
-    OpenGate, Opened, Outgoing, Pass, Place, PumpRun, Pumps, Put, Recorder, Reply, Sending, Shared,
-    Step, StepFault, StepKind, Unwritten, Why, WorkerEnd, apdu_in, client_writer, clock, make_call,
+    Arrival, Awaited, Batch, Bell, Calls, ClientWriter, Clock, CloseFault, Closed, Course, Effects,
+    Entry, Figures, Front, Gate, Head, Incoming, Kept, KeptStep, Line, LineCourse, Load, Machine,
+    Made, Observer, OpenGate, Opened, Outgoing, OutstationWriter, Pass, Place, PumpRun, Pumps, Put,
+    Recorder, Reply, Sending, Shared, Step, StepFault, StepKind, Turns, Unwritten, Why, WorkerEnd,
+    apdu_in, client_turn, client_writer, clock, clock_turn, lose_outstation, make_call,
     open_course, outstation_writer, pause, put_out,
 };
-pub use outstation_reading::{Patience, outstation_reader};
+pub use link_check::LinkCheck;
+pub use outstation_reading::{OutstationReader, Patience, outstation_reader};

@@ -43,9 +43,9 @@ pub struct Patience {
     pub for_status: u64,
 }
 
-/// What the reader of an outstation works with.
+/// The reader of an outstation.
 #[derive(Drop)]
-struct Reading<
+pub struct OutstationReader<
     'a,
     'b,
     L: Course,
@@ -56,22 +56,22 @@ struct Reading<
     C: Clock,
     G: Gate,
 > {
-    alloc: Global,
-    rt: &'a R,
-    shared: &'a S,
-    pass: Pass<L>,
-    outstation: u8,
-    line: &'b Line<W, N>,
+    pub alloc: Global,
+    pub rt: &'a R,
+    pub shared: &'a S,
+    pub pass: Pass<L>,
+    pub outstation: u8,
+    pub line: &'b Line<W, N>,
     /// What of the line's history it has seen.
-    front: Front<Sending, N>,
-    clock: &'a C,
-    gate: &'a G,
-    patience: Patience,
+    pub front: Front<Sending, N>,
+    pub clock: &'a C,
+    pub gate: &'a G,
+    pub patience: Patience,
     /// When a fragment was taken last, or the reader began, in milliseconds.
-    heard: u64,
-    link: Cell<LinkCheck>,
+    pub heard: u64,
+    pub link: Cell<LinkCheck>,
     /// The octets of the last fragment, at the front.
-    recent: [u8; LONGEST_FRAGMENT],
+    pub recent: [u8; LONGEST_FRAGMENT],
 }
 
 /// Makes a step of each response that comes from an outstation, and sends what is owed for it: the replies of the
@@ -115,7 +115,7 @@ pub fn outstation_reader<
     ensures failed { I.has_failed input.new ≡ (is_read_fault (Some result.2) || I.has_failed input.old) }
 {
     let moment = clock.moment();
-    let mut reading = Reading {
+    let mut reading = OutstationReader {
         alloc,
         rt,
         shared,
@@ -134,7 +134,7 @@ pub fn outstation_reader<
     let mut receiver = receiver;
     let end = reading.read_on(&mut feed, &mut receiver, input);
     lose_outstation(rt, shared, &mut reading.pass, outstation, clock, gate);
-    let Reading { pass, front, .. } = reading;
+    let OutstationReader { pass, front, .. } = reading;
     (pass, front, end)
 }
 
@@ -148,8 +148,8 @@ impl<
     W: Outgoing,
     C: Clock,
     G: Gate,
-> Reading<'a, 'b, L, N, S, R, W, C, G> {
-    /// Piece after piece, until the worker is to end.
+> OutstationReader<'a, 'b, L, N, S, R, W, C, G> {
+    /// Turn after turn, until the worker is to end.
     fn read_on<I: Incoming>(
         &mut self,
         feed: &mut LinkFeed,
@@ -166,16 +166,17 @@ impl<
     {
         let mut buffer = [0; PIECE];
         'pieces: for _ in self.rt.forever() {
-            if let Some(end) = self.read(feed, receiver, input, &mut buffer) {
+            if let Some(end) = self.turn(feed, receiver, input, &mut buffer) {
                 return end;
             }
         }
         unreachable!()
     }
 
-    /// One piece. How the worker ends, if it does.
+    /// One turn: takes what comes from the outstation, for which it waits as long as the input does, or does what is due if nothing
+    /// comes. How the worker ends, if it does.
     #[tactic(auto, using(gw_ends::proofs::Failed::reader_ends, crate::proofs::Confirming::reads_none))]
-    fn read<I: Incoming>(
+    pub fn turn<I: Incoming>(
         &mut self,
         feed: &mut LinkFeed,
         receiver: &mut Receiver,

@@ -5,7 +5,6 @@ use Rattle.std.specs.List.{AllByRecursion, cons_option}
 use Rattle.std.proofs.lemmas.Bool.{true≢false, eq-eqb, eqb-true}
 use Rattle.std.proofs.lemmas.List.{append-nil}
 use Rattle.iec_apci.specs.declared.buffer.ApduBuf.{ApduBuf}
-use Rattle.dnp_app.specs.declared.request.Request.{Request}
 use Rattle.gw_map.specs.Settings.{Setup}
 use Rattle.gw_steps.specs.declared.step.Step.{Step}
 use Rattle.gw_steps.specs.declared.step.Step.TheVariants as steps
@@ -19,8 +18,8 @@ use Rattle.gw_shared.specs.Roles.{IsOne, KeepsRoles, MayMake, Roles}
 use Rattle.gw_shared.specs.Turn.{Pass}
 use Rattle.gw_threads.specs.Calls.{AreCalls, Call, all_given, given_by}
 use Rattle.gw_threads.specs.Sends.{IsTowards, SendsAll, SendsAllGiven, is_poll, request_given}
-use Rattle.gw_threads.specs.Standing.{IsOldest, Stand}
-use Rattle.gw_threads.specs.Written.{AreAll, Asked, IsFor, Writes, Wrote, WroteFront, apdu_given, is_pump}
+use Rattle.gw_threads.specs.Standing.{Stand}
+use Rattle.gw_threads.specs.Written.{AreAll, Asked, IsFor, Writes, Wrote, apdu_given, is_pump}
 use Rattle.gw_threads.proofs.Standing.{calls_stand}
 use Rattle.gw_ends.specs.declared.worker_end.WorkerEnd.{WorkerEnd}
 use Rattle.gw_ends.specs.declared.worker_end.WorkerEnd.TheVariants as ends

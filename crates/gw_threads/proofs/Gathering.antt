@@ -1,7 +1,6 @@
 -- What a client's writer is given of the shared core.
 use Rattle.std.proofs.Common.{◌≡◌, inl, inr, false, true, ℕ, ◌+◌, List, [], ◌∷◌, ◌++◌, length}
 use Rattle.std.proofs.Common.{take, Option, Some, None, Result, Ok, Err, refl, sym, ap, subst, ◌∙◌}
-use Rattle.std.specs.List.{AllByRecursion}
 use Rattle.std.specs.Io.KnownBytes.{Appends}
 use Rattle.iec_apci.specs.declared.buffer.ApduBuf.{ApduBuf}
 use Rattle.gw_map.specs.Settings.{Setup}
@@ -20,7 +19,6 @@ use Rattle.gw_ends.proofs.Joined.{joined-append}
 use Rattle.gw_ends.specs.declared.putting.Gathered.{Gathered}
 use Rattle.std.proofs.Math.Seq.{take-append-add}
 use Rattle.std.proofs.lemmas.List.{append-nil}
-use Rattle.std.proofs.Common.{append_assoc}
 use Rattle.gw_threads.specs.Calls.{Call, given_by}
 use Rattle.gw_threads.specs.Written.{Asked, Asking, GivesTo, IsFor, IsPutOut, Settles, TellsLoss, Writes}
 use Rattle.gw_threads.specs.Written.{WritesIfEnded, WritesPut, Wrote, WroteFront, apdu_given, gathered_by}

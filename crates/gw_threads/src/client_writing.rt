@@ -6,8 +6,9 @@ ghost use Rattle.gw_shared.specs.Roles.{IsOne};
 ghost use Rattle.gw_shared.specs.Turn.{Pass as Seen};
 ghost use Rattle.gw_threads.specs.Written.{AreAll, Asked, Settles, TellsLoss, Writes, WritesIfEnded, WritesPut};
 
+use crate::awaited::Awaited;
 use crate::gate::Gate;
-use crate::source::SharedSource;
+use crate::source::ClientWriter;
 use gw_clock::Clock;
 use gw_ends::{Batch, Outgoing, Put, WorkerEnd, put_out};
 use gw_shared::{Calls, Course, Pass};
@@ -38,7 +39,7 @@ pub fn client_writer<'a, L: Course, S: Calls<L>, R: Wait, W: Outgoing, C: Clock,
     ensures failed { W.has_failed writer.new ≡ (is_write_fault (Some result.1) || W.has_failed writer.old) }
 {
     pass.attest();
-    let mut source = SharedSource::new(rt, shared, pass, client, clock, gate);
+    let mut source = ClientWriter::new(rt, shared, pass, client, clock, gate);
     let mut batch = Batch::new();
     let end = write_on(&mut source, writer, &mut batch);
     let pass = source.into_pass();
@@ -46,9 +47,9 @@ pub fn client_writer<'a, L: Course, S: Calls<L>, R: Wait, W: Outgoing, C: Clock,
     (pass, end)
 }
 
-/// Run after run, until the worker is to end.
+/// Turn after turn, until the worker is to end.
 fn write_on<L: Course, S: Calls<L>, R: Wait, W: Outgoing, C: Clock, G: Gate>(
-    source: &mut SharedSource<'_, L, S, R, C, G>,
+    source: &mut ClientWriter<'_, L, S, R, C, G>,
     writer: &mut W,
     batch: &mut Batch,
 ) -> WorkerEnd
@@ -60,16 +61,18 @@ fn write_on<L: Course, S: Calls<L>, R: Wait, W: Outgoing, C: Clock, G: Gate>(
     ensures failed { W.has_failed writer.new ≡ (is_write_fault (Some result) || W.has_failed writer.old) }
 {
     'runs: for _ in source.rt().forever() {
-        if let Some(end) = write_run(source, writer, batch) {
+        if let Some(end) = client_turn(source, writer, batch) {
             return end;
         }
+        source.wait();
     }
     unreachable!()
 }
 
-/// One run, and the sleep behind it; how the worker ends, if it does.
-fn write_run<L: Course, S: Calls<L>, R: Wait, W: Outgoing, C: Clock, G: Gate>(
-    source: &mut SharedSource<'_, L, S, R, C, G>,
+/// One turn of a client's writer: a run of what the core puts out, or the loss of the client. How the worker ends, if it does;
+/// else it waits for what it awaits then.
+pub fn client_turn<L: Course, S: Calls<L>, R: Wait, W: Outgoing, C: Clock, G: Gate>(
+    source: &mut ClientWriter<'_, L, S, R, C, G>,
     writer: &mut W,
     batch: &mut Batch,
 ) -> Option<WorkerEnd>
@@ -86,17 +89,19 @@ fn write_run<L: Course, S: Calls<L>, R: Wait, W: Outgoing, C: Clock, G: Gate>(
     put.end()
 }
 
-/// What comes behind a run: a sleep where nothing waits, or the loss of the client.
+/// What follows a run: the loss of the client if it wasn't taken; a wait until the bell was rung more often if no more is to be
+/// put out.
 fn settle<L: Course, S: Calls<L>, R: Wait, C: Clock, G: Gate>(
-    source: &mut SharedSource<'_, L, S, R, C, G>,
+    source: &mut ClientWriter<'_, L, S, R, C, G>,
     put: &Put,
     rung: u64,
 )
     ensures client { source.new.client ≡ source.old.client }
     ensures settles { Settles L.setup source.old.client source.old.pass source.new.pass put.now }
 {
+    source.set_awaits(Awaited::Nothing);
     match put {
-        Put::Ended(Some(Ok(_))) => source.wait(rung),
+        Put::Ended(Some(Ok(_))) => source.set_awaits(Awaited::Ring(rung)),
         Put::Ended(Some(Err(_))) | Put::Unwritten => source.lose(),
         Put::Ended(None) | Put::More => {}
     }
@@ -104,7 +109,7 @@ fn settle<L: Course, S: Calls<L>, R: Wait, C: Clock, G: Gate>(
 
 /// Hands over one run of what the core puts out to the client.
 fn put_run<L: Course, S: Calls<L>, R: Wait, W: Outgoing, C: Clock, G: Gate>(
-    source: &mut SharedSource<'_, L, S, R, C, G>,
+    source: &mut ClientWriter<'_, L, S, R, C, G>,
     writer: &mut W,
     batch: &mut Batch,
 ) -> Put

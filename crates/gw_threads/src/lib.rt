@@ -3,6 +3,7 @@
 //! over. Each worker gives its pass back when it ends, and tells why it ended.
 #![tactic(auto)]
 
+mod awaited;
 mod call;
 mod client_writing;
 pub mod examples;
@@ -15,8 +16,9 @@ mod source;
 mod standstill;
 mod ticking;
 
+pub use awaited::Awaited;
 pub use call::make_call;
-pub use client_writing::client_writer;
+pub use client_writing::{client_turn, client_writer};
 pub use gate::{FrameHeader, Gate, OpenGate, Place};
 pub use gw_clock::Clock;
 pub use gw_ends::{
@@ -31,5 +33,7 @@ pub use gw_shared::{
 };
 pub use lost::{lose_client, lose_outstation};
 pub use observer::Observer;
-pub use outstation_writing::outstation_writer;
-pub use ticking::{clock, pause};
+pub use outstation_writing::{OutstationWriter, outstation_writer};
+pub use source::ClientWriter;
+pub use standstill::Turns;
+pub use ticking::{clock, clock_turn, pause};

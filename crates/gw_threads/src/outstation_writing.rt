@@ -5,6 +5,7 @@ ghost use Rattle.gw_shared.specs.Roles.{IsOne};
 ghost use Rattle.gw_shared.specs.Turn.{Pass as Seen};
 ghost use Rattle.gw_threads.specs.Sends.{is_request, PollsOnce, SendsAll, SendsAllGiven, SentAll, TellsOutstationLoss};
 
+use crate::awaited::Awaited;
 use crate::call::make_call;
 use crate::gate::{Gate, Place};
 use crate::lost::lose_outstation;
@@ -13,12 +14,39 @@ use gw_clock::Clock;
 use gw_ends::{Front, Line, LineCourse, Outgoing, Sending, WorkerEnd};
 use gw_shared::{Calls, Course, Pass, Reply, Step, StepFault};
 use std::sync::Wait;
-use std::time::Duration;
+
+/// The writer towards an outstation.
+#[derive(Drop)]
+pub struct OutstationWriter<
+    'a,
+    'b,
+    L: Course,
+    N: LineCourse,
+    S: Calls<L>,
+    R: Wait,
+    W: Outgoing,
+    C: Clock,
+    G: Gate,
+> {
+    pub rt: &'a R,
+    pub shared: &'a S,
+    pub pass: Pass<L>,
+    pub outstation: u8,
+    pub line: &'b Line<W, N>,
+    /// What of the line's history it has seen.
+    pub front: Front<Sending, N>,
+    pub clock: &'a C,
+    pub gate: &'a G,
+    /// What it waits for before its next turn.
+    pub awaits: Awaited,
+}
 
 /// Sends an outstation the requests that the core gives, until it isn't up any more, writing fails, or the worker is
-/// asked to end. Where none is due it sleeps until a step may bring one. It waits before it asks for the next where the
-/// outstation isn't to be asked yet, but not where an order waits.
+/// asked to end. If none is due it sleeps until a step may bring one. It waits before it asks for the next if the
+/// outstation isn't to be asked yet, unless an order waits.
 pub fn outstation_writer<
+    'a,
+    'b,
     L: Course,
     N: LineCourse,
     S: Calls<L>,
@@ -27,13 +55,13 @@ pub fn outstation_writer<
     C: Clock,
     G: Gate,
 >(
-    rt: &R,
-    shared: &S,
+    rt: &'a R,
+    shared: &'a S,
     pass: Pass<L>,
     outstation: u8,
-    line: &Line<W, N>,
-    clock: &C,
-    gate: &G,
+    line: &'b Line<W, N>,
+    clock: &'a C,
+    gate: &'a G,
 ) -> (Pass<L>, Front<Sending, N>, WorkerEnd)
     requires may { IsOne (L.roles.poller outstation) pass.actor }
     ensures own { result.0.actor ≡ pass.actor }
@@ -46,85 +74,155 @@ pub fn outstation_writer<
     ensures end { MayEndWriting result.2 }
 {
     pass.attest();
-    let mut pass = pass;
-    let mut mine = line.join(rt);
-    'requests: for _ in rt.forever() {
-        let next = write_next(
-            rt, shared, &mut pass, outstation, line, &mut mine, clock, gate,
-        );
-        if let Some(end) = next {
-            pass.attest();
-            return (pass, mine, end);
+    let mut writer = OutstationWriter {
+        rt,
+        shared,
+        pass,
+        outstation,
+        line,
+        front: line.join(rt),
+        clock,
+        gate,
+        awaits: Awaited::Nothing,
+    };
+    let end = writer.write_on();
+    writer.pass.attest();
+    let OutstationWriter { pass, front, .. } = writer;
+    (pass, front, end)
+}
+
+impl<
+    'a,
+    'b,
+    L: Course,
+    N: LineCourse,
+    S: Calls<L>,
+    R: Wait,
+    W: Outgoing,
+    C: Clock,
+    G: Gate,
+> OutstationWriter<'a, 'b, L, N, S, R, W, C, G> {
+    /// Turn after turn, until the worker is to end.
+    fn write_on(&mut self) -> WorkerEnd
+        requires may { IsOne (L.roles.poller self.old.outstation) self.old.pass.actor }
+        ensures sent { SentAll L.setup self.old.outstation self.old.pass self.new.pass self.old.front self.new.front
+            (is_write_fault (Some result)) }
+        ensures lost { is_write_fault (Some result) ≡ true
+            → (mid : Seen) × TellsOutstationLoss L.setup self.old.outstation mid self.new.pass }
+        ensures end { MayEndWriting result }
+    {
+        'requests: for _ in self.rt.forever() {
+            if let Some(end) = self.turn() {
+                return end;
+            }
+            self.awaits
+                .wait(self.rt, self.shared.outstation_bell(self.outstation));
         }
+        unreachable!()
     }
-    unreachable!()
-}
 
-/// Sends the next request where one is due, and sleeps until a further one may be; how the worker ends, if it does.
-#[tactic(auto, using(crate::proofs::Requesting::sent_none, crate::proofs::Requesting::sent_loss))]
-fn write_next<L: Course, N: LineCourse, S: Calls<L>, R: Wait, W: Outgoing, C: Clock, G: Gate>(
-    rt: &R,
-    shared: &S,
-    pass: &mut Pass<L>,
-    outstation: u8,
-    line: &Line<W, N>,
-    mine: &mut Front<Sending, N>,
-    clock: &C,
-    gate: &G,
-) -> Option<WorkerEnd>
-    requires may { IsOne (L.roles.poller outstation) pass.old.actor }
-    ensures sent { SentAll L.setup outstation pass.old pass.new mine.old mine.new (is_write_fault result) }
-    ensures lost { is_write_fault result ≡ true → (mid : Seen) × TellsOutstationLoss L.setup outstation mid pass.new }
-    ensures end { IfSome result MayEndWriting }
-{
-    rest::<L, S, R, C>(rt, shared, outstation, clock);
-    // Read before all that a ring may tell of.
-    let rung = rung::<L, S>(shared, outstation);
-    if shared.stopping() {
-        return Some(WorkerEnd::Stopping);
+    /// One turn: sends the next request if one is due. How the worker ends, if it does; else it waits for what it awaits then.
+    #[tactic(auto, using(crate::proofs::Requesting::sent_none, crate::proofs::Requesting::sent_loss))]
+    pub fn turn(&mut self) -> Option<WorkerEnd>
+        requires may { IsOne (L.roles.poller self.old.outstation) self.old.pass.actor }
+        ensures outstation { self.new.outstation ≡ self.old.outstation }
+        ensures sent { SentAll L.setup self.old.outstation self.old.pass self.new.pass self.old.front self.new.front
+            (is_write_fault result) }
+        ensures lost { is_write_fault result ≡ true
+            → (mid : Seen) × TellsOutstationLoss L.setup self.old.outstation mid self.new.pass }
+        ensures end { IfSome result MayEndWriting }
+    {
+        // Read before all that a ring may tell of.
+        let rung = self.rung();
+        if self.shared.stopping() {
+            return Some(WorkerEnd::Stopping);
+        }
+        if self.rests(rung) {
+            return None;
+        }
+        let end = self.send_next(rung)?;
+        self.lose();
+        Some(end)
     }
-    let end = send_next(rt, shared, pass, outstation, line, mine, rung, clock, gate)?;
-    lose_outstation(rt, shared, pass, outstation, clock, gate);
-    Some(end)
-}
 
-/// Sends the next request where one is due, and sleeps until a further one may be; why the outstation is lost, if it is.
-#[tactic(auto, using(crate::proofs::Requesting::sent_request, crate::proofs::Requesting::sent_nothing))]
-fn send_next<L: Course, N: LineCourse, S: Calls<L>, R: Wait, W: Outgoing, C: Clock, G: Gate>(
-    rt: &R,
-    shared: &S,
-    pass: &mut Pass<L>,
-    outstation: u8,
-    line: &Line<W, N>,
-    mine: &mut Front<Sending, N>,
-    rung: u64,
-    clock: &C,
-    gate: &G,
-) -> Option<WorkerEnd>
-    requires may { IsOne (L.roles.poller outstation) pass.old.actor }
-    ensures sent { SentAll L.setup outstation pass.old pass.new mine.old mine.new (is_write_fault result) }
-    ensures end { IfSome result MayEndWriting }
-{
-    let answer = poll(rt, shared, pass, outstation, clock, gate);
-    match request_in(&answer) {
-        Some(request) => {
-            gate.at(pass.actor(), Place::BeforeWrite);
-            match line.request(rt, mine, &request) {
-                Ok(()) => {
-                    // No other is due before a step that rings.
-                    wait::<L, S, R>(rt, shared, outstation, rung);
-                    None
+    /// Whether the outstation isn't to be asked yet. Then the worker waits for as long, unless an order comes for it, which rings.
+    fn rests(&mut self, rung: u64) -> bool
+        ensures outstation { self.new.outstation ≡ self.old.outstation }
+        ensures pass { self.new.pass ≡ self.old.pass }
+        ensures front { self.new.front ≡ self.old.front }
+    {
+        let milliseconds = self
+            .shared
+            .rest(self.rt, self.outstation, self.clock.moment());
+        self.awaits = Awaited::RingOrTime { rung, milliseconds };
+        milliseconds != 0
+    }
+
+    /// Sends the next request if one is due; why the outstation is lost, if it is. No other is due before a step that rings.
+    #[tactic(auto, using(crate::proofs::Requesting::sent_request, crate::proofs::Requesting::sent_nothing))]
+    fn send_next(&mut self, rung: u64) -> Option<WorkerEnd>
+        requires may { IsOne (L.roles.poller self.old.outstation) self.old.pass.actor }
+        ensures outstation { self.new.outstation ≡ self.old.outstation }
+        ensures sent { SentAll L.setup self.old.outstation self.old.pass self.new.pass self.old.front self.new.front
+            (is_write_fault result) }
+        ensures end { IfSome result MayEndWriting }
+    {
+        self.awaits = Awaited::Ring(rung);
+        let answer = self.poll();
+        match request_in(&answer) {
+            Some(request) => {
+                self.gate.at(self.pass.actor(), Place::BeforeWrite);
+                match self.line.request(self.rt, &mut self.front, &request) {
+                    Ok(()) => None,
+                    Err(_) => Some(WorkerEnd::WriteFault),
                 }
-                Err(_) => Some(WorkerEnd::WriteFault),
+            }
+            None => {
+                if answer.is_err() {
+                    return Some(WorkerEnd::Stopping);
+                }
+                None
             }
         }
-        None => {
-            if answer.is_err() {
-                return Some(WorkerEnd::Stopping);
-            }
-            wait::<L, S, R>(rt, shared, outstation, rung);
-            None
+    }
+
+    /// How often the outstation's bell was rung.
+    pub fn rung(&self) -> u64 {
+        match self.shared.outstation_bell(self.outstation) {
+            Some(bell) => bell.rung(),
+            None => 0,
         }
+    }
+
+    /// Tells the core that the outstation is lost.
+    fn lose(&mut self)
+        ensures outstation { self.new.outstation ≡ self.old.outstation }
+        ensures front { self.new.front ≡ self.old.front }
+        ensures told { TellsOutstationLoss L.setup self.old.outstation self.old.pass self.new.pass }
+    {
+        lose_outstation(
+            self.rt,
+            self.shared,
+            &mut self.pass,
+            self.outstation,
+            self.clock,
+            self.gate,
+        );
+    }
+
+    /// Asks the core for the next request.
+    fn poll(&mut self) -> Result<Reply, StepFault>
+        requires { IsOne (L.roles.poller self.old.outstation) self.old.pass.actor }
+        ensures outstation { self.new.outstation ≡ self.old.outstation }
+        ensures front { self.new.front ≡ self.old.front }
+        ensures polled { PollsOnce L.setup self.old.outstation self.old.pass self.new.pass result }
+    {
+        let step = Step::Poll {
+            outstation: self.outstation,
+            moment: self.clock.moment(),
+            wall: self.clock.wall(),
+        };
+        make_call(self.rt, self.shared, &mut self.pass, step, self.gate)
     }
 }
 
@@ -145,55 +243,4 @@ fn request_in(answer: &Result<Reply, StepFault>) -> Option<Request>
         )
         | Err(_) => None,
     }
-}
-
-/// Waits for as long as the outstation isn't to be asked, unless an order comes for it, or the worker is to end. The bell
-/// rings for other things too.
-fn rest<L: Course, S: Calls<L>, R: Wait, C: Clock>(rt: &R, shared: &S, outstation: u8, clock: &C) {
-    let Some(bell) = shared.outstation_bell(outstation) else {
-        return;
-    };
-    for _ in rt.forever() {
-        let rung = bell.rung();
-        let rest = shared.rest(rt, outstation, clock.moment());
-        if rest == 0 || shared.stopping() {
-            return;
-        }
-        bell.wait_for(rt, rung, Duration::from_millis(rest));
-    }
-}
-
-/// Waits until the outstation's bell was rung more often.
-fn wait<L: Course, S: Calls<L>, R: Wait>(rt: &R, shared: &S, outstation: u8, rung: u64) {
-    if let Some(bell) = shared.outstation_bell(outstation) {
-        bell.wait(rt, rung);
-    }
-}
-
-/// How often the outstation's bell was rung.
-fn rung<L: Course, S: Calls<L>>(shared: &S, outstation: u8) -> u64 {
-    match shared.outstation_bell(outstation) {
-        Some(bell) => bell.rung(),
-        None => 0,
-    }
-}
-
-/// Asks the core for the next request.
-fn poll<L: Course, S: Calls<L>, R: Wait, C: Clock, G: Gate>(
-    rt: &R,
-    shared: &S,
-    pass: &mut Pass<L>,
-    outstation: u8,
-    clock: &C,
-    gate: &G,
-) -> Result<Reply, StepFault>
-    requires { IsOne (L.roles.poller outstation) pass.old.actor }
-    ensures { PollsOnce L.setup outstation pass.old pass.new result }
-{
-    let step = Step::Poll {
-        outstation,
-        moment: clock.moment(),
-        wall: clock.wall(),
-    };
-    make_call(rt, shared, pass, step, gate)
 }

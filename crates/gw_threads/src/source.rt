@@ -1,8 +1,9 @@
-//! What gives the replies to pumps.
+//! What a client's writer works with, which gives the replies to pumps.
 ghost use Rattle.std.specs.Prelude.{◌≡◌};
 ghost use Rattle.gw_shared.specs.Roles.{IsOne};
 ghost use Rattle.gw_threads.specs.Written.{gathered_by, GivesTo, TellsLoss};
 
+use crate::awaited::Awaited;
 use crate::gate::{Gate, Place};
 use crate::lost::lose_client;
 use gw_clock::Clock;
@@ -11,19 +12,20 @@ use gw_shared::{Calls, Course, Pass, Pumped, Pumps};
 use std::marker::Model;
 use std::sync::Wait;
 
-/// The shared core, pumped for one client with a pass.
+/// What the writer of a client works with: the shared core, pumped for one client with a pass.
 #[derive(Drop)]
-pub struct SharedSource<'a, L: Course, S: Calls<L>, R: Wait, C: Clock, G: Gate> {
+pub struct ClientWriter<'a, L: Course, S: Calls<L>, R: Wait, C: Clock, G: Gate> {
     rt: &'a R,
     shared: &'a S,
     pass: Pass<L>,
     client: u8,
     clock: &'a C,
     gate: &'a G,
+    awaits: Awaited,
 }
 
 impl<'a, L: Course, S: Calls<L>, R: Wait, C: Clock, G: Gate> Model
-    for SharedSource<'a, L, S, R, C, G> {
+    for ClientWriter<'a, L, S, R, C, G> {
     ghost use Rattle.gw_shared.specs.Roles.{IsOne};
     ghost use Rattle.gw_threads.specs.Written.{Asking};
 
@@ -34,7 +36,7 @@ impl<'a, L: Course, S: Calls<L>, R: Wait, C: Clock, G: Gate> Model
     ghost invariant = { λ s. IsOne (L.roles.pumper s.client) s.pass.actor };
 }
 
-impl<'a, L: Course, S: Calls<L>, R: Wait, C: Clock, G: Gate> SharedSource<'a, L, S, R, C, G> {
+impl<'a, L: Course, S: Calls<L>, R: Wait, C: Clock, G: Gate> ClientWriter<'a, L, S, R, C, G> {
     /// A worker with a pass, which asks for a client.
     pub fn new(
         rt: &'a R,
@@ -43,17 +45,18 @@ impl<'a, L: Course, S: Calls<L>, R: Wait, C: Clock, G: Gate> SharedSource<'a, L,
         client: u8,
         clock: &'a C,
         gate: &'a G,
-    ) -> SharedSource<'a, L, S, R, C, G>
+    ) -> ClientWriter<'a, L, S, R, C, G>
         requires { IsOne (L.roles.pumper client) pass.actor }
         ensures { result ≡ record { client = client; pass = pass } }
     {
-        SharedSource {
+        ClientWriter {
             rt,
             shared,
             pass,
             client,
             clock,
             gate,
+            awaits: Awaited::Nothing,
         }
     }
 
@@ -61,12 +64,12 @@ impl<'a, L: Course, S: Calls<L>, R: Wait, C: Clock, G: Gate> SharedSource<'a, L,
     pub fn into_pass(self) -> Pass<L>
         ensures { result ≡ self.entry.pass }
     {
-        let SharedSource { pass, .. } = self;
+        let ClientWriter { pass, .. } = self;
         pass
     }
 
     /// What it waits with.
-    pub fn rt(&self) -> &'a R {
+    pub(crate) fn rt(&self) -> &'a R {
         self.rt
     }
 
@@ -78,11 +81,22 @@ impl<'a, L: Course, S: Calls<L>, R: Wait, C: Clock, G: Gate> SharedSource<'a, L,
         }
     }
 
-    /// Waits until it was rung more often.
-    pub fn wait(&self, rung: u64) {
-        if let Some(bell) = self.shared.client_bell(self.client) {
-            bell.wait(self.rt, rung);
-        }
+    /// What it waits for before its next turn.
+    pub fn awaits(&self) -> Awaited {
+        self.awaits
+    }
+
+    /// It waits for this before its next turn.
+    pub(crate) fn set_awaits(&mut self, awaits: Awaited)
+        ensures { self.new ≡ self.old }
+    {
+        self.awaits = awaits;
+    }
+
+    /// Waits for that.
+    pub(crate) fn wait(&self) {
+        self.awaits
+            .wait(self.rt, self.shared.client_bell(self.client));
     }
 
     /// The connection is lost.
@@ -102,7 +116,7 @@ impl<'a, L: Course, S: Calls<L>, R: Wait, C: Clock, G: Gate> SharedSource<'a, L,
 }
 
 impl<'a, L: Course, S: Calls<L>, R: Wait, C: Clock, G: Gate> Source
-    for SharedSource<'a, L, S, R, C, G> {
+    for ClientWriter<'a, L, S, R, C, G> {
     ghost Gives = { GivesTo L.setup };
 
     fn gather(&mut self, batch: &mut Batch) -> Gathered {

@@ -25,7 +25,7 @@ const PIECE_MS: u64 = 100;
 /// How many pieces a second has.
 const PIECES: u32 = 10;
 
-/// Makes a tick every 100 milliseconds, until it is asked to end or no further step can be counted. Behind a standstill of
+/// Makes a tick every 100 milliseconds, until it is asked to end or no further step can be counted. After a standstill of
 /// the host, of which the gate is told, the readers first have 200 milliseconds to take what came meanwhile: only ticks
 /// judge what is late.
 #[tactic(auto, using(crate::proofs::TicksAlone::ticks_then, crate::proofs::TicksAlone::ticks_none))]
@@ -43,7 +43,7 @@ pub fn clock<L: Course, S: Calls<L>, R: Wait + Sleeps, C: Clock, G: Gate>(
     let mut pass = pass;
     let mut turns = Turns::new(clock.moment());
     'ticks: for _ in rt.forever() {
-        let Some(rest) = take_turn(rt, shared, &mut pass, &mut turns, clock, gate) else {
+        let Some(rest) = clock_turn(rt, shared, &mut pass, &mut turns, clock, gate) else {
             break;
         };
         thread::sleep(rt, Duration::from_millis(rest));
@@ -51,9 +51,10 @@ pub fn clock<L: Course, S: Calls<L>, R: Wait + Sleeps, C: Clock, G: Gate>(
     (pass, WorkerEnd::Stopping)
 }
 
-/// Makes a tick, or puts it off behind a standstill. How many milliseconds later the next turn comes, if one does.
+/// One turn of the clock: makes a tick, or puts it off after a standstill. How many milliseconds later the next turn comes, if one
+/// does.
 #[tactic(auto, using(crate::proofs::TicksAlone::ticks_none))]
-fn take_turn<L: Course, S: Calls<L>, R: Wait, C: Clock, G: Gate>(
+pub fn clock_turn<L: Course, S: Calls<L>, R: Wait, C: Clock, G: Gate>(
     rt: &R,
     shared: &S,
     pass: &mut Pass<L>,
