@@ -2,24 +2,24 @@
 //! follow each other, and what is counted over all of them.
 #![tactic(auto)]
 
-mod awake;
+mod awake_writers;
 mod figures;
-mod hold;
+mod holdback;
 mod order_counts;
-mod pace;
-mod roused;
+mod pacing;
 mod streak;
 mod tally;
+mod wake_set;
 
-pub use awake::Awake;
+pub use awake_writers::AwakeWriters;
 pub use figures::Figures;
 pub use gw_control::{Answer, Refusal};
 pub use gw_steps::{
     Apdu, ApduBuf, ApduKind, Effects, Fate, Judged, Machine, NewsPiece, OrderEnd, Pumps, Reply,
     Reported, Step, StepFault, StepKind, Task, UnknownAsdu, Verdict, Why,
 };
-pub use hold::Load;
+pub use holdback::Load;
 pub use order_counts::OrderCounts;
-pub use pace::Pace;
-pub use roused::Roused;
+pub use pacing::Pacing;
 pub use tally::{Tally, order_accepted};
+pub use wake_set::WakeSet;

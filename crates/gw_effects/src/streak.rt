@@ -19,7 +19,7 @@ const NEED_TIME: u8 = 0x10;
 
 /// What is asked of an outstation by a request.
 #[derive(Clone, Copy)]
-pub enum Asked {
+pub enum AskedFor {
     /// What a client ordered.
     Order,
     /// To set its clock.
@@ -28,23 +28,23 @@ pub enum Asked {
     Other,
 }
 
-impl Asked {
+impl AskedFor {
     /// What the request of a task asks for.
-    pub fn by(task: Task) -> Asked {
+    pub fn by(task: Task) -> AskedFor {
         match task {
-            Task::Command(..) => Asked::Order,
-            Task::WriteTime(_) | Task::RecordTime(_) => Asked::Time,
+            Task::Command(..) => AskedFor::Order,
+            Task::WriteTime(_) | Task::RecordTime(_) => AskedFor::Time,
             Task::ClearRestart | Task::Disable | Task::Integrity | Task::Enable | Task::EventPoll =>
-                Asked::Other,
+                AskedFor::Other,
         }
     }
 
     /// Whether this IIN1 in the answer to it asks for a further request.
     fn is_pressed(self, indications: u8) -> bool {
         match self {
-            Asked::Order => false,
-            Asked::Time => indications & (EVENTS_OR_RESTART | NEED_TIME) != 0,
-            Asked::Other => indications & EVENTS_OR_RESTART != 0,
+            AskedFor::Order => false,
+            AskedFor::Time => indications & (EVENTS_OR_RESTART | NEED_TIME) != 0,
+            AskedFor::Other => indications & EVENTS_OR_RESTART != 0,
         }
     }
 }
@@ -56,7 +56,7 @@ impl Asked {
 pub struct RequestStreak {
     count: u32,
     /// What the last request asked for, and when it was given, while its answer hasn't ended.
-    asked: Option<(Asked, u64)>,
+    asked: Option<(AskedFor, u64)>,
     /// How long the last rest is, and when it ends.
     rest: u64,
     until: u64,
@@ -74,7 +74,7 @@ impl RequestStreak {
     }
 
     /// A request was given at a moment. The streak ends where the one before it was left without an answer.
-    pub fn ask(&mut self, asked: Asked, moment: u64) {
+    pub fn ask(&mut self, asked: AskedFor, moment: u64) {
         if self.asked.is_some() {
             self.end();
         }
@@ -96,7 +96,7 @@ impl RequestStreak {
         self.asked = None;
         if is_due && asked.is_pressed(indications) {
             self.go_on(moment, moment.saturating_sub(since));
-        } else if !matches!(asked, Asked::Order) {
+        } else if !matches!(asked, AskedFor::Order) {
             self.end();
         }
     }

@@ -9,9 +9,9 @@ mod tape;
 
 pub use entry::Entry;
 pub use gw_effects::{
-    Answer, Apdu, ApduBuf, ApduKind, Awake, Effects, Fate, Figures, Judged, Load, Machine,
-    NewsPiece, OrderCounts, OrderEnd, Pace, Pumps, Refusal, Reply, Reported, Roused, Step,
-    StepFault, StepKind, Tally, Task, UnknownAsdu, Verdict, Why, order_accepted,
+    Answer, Apdu, ApduBuf, ApduKind, AwakeWriters, Effects, Fate, Figures, Judged, Load, Machine,
+    NewsPiece, OrderCounts, OrderEnd, Pacing, Pumps, Refusal, Reply, Reported, Step, StepFault,
+    StepKind, Tally, Task, UnknownAsdu, Verdict, WakeSet, Why, order_accepted,
 };
 pub use kept::{Kept, KeptStep};
 pub use recorder::{Dump, NoRoom, Recorder};

@@ -2,7 +2,7 @@
 
 use gw_bell::Bell;
 use gw_model::{CLIENTS, Memory, OUTSTATIONS};
-use gw_record::Roused;
+use gw_record::WakeSet;
 use std::alloc::Global;
 
 /// A bell for each writer towards an outstation, and for that of each client.
@@ -24,17 +24,17 @@ impl Bells {
     }
 
     /// Wakes workers.
-    pub fn ring(&self, roused: Roused) {
-        if roused.is_nobody() {
+    pub fn ring(&self, wake_set: WakeSet) {
+        if wake_set.is_nobody() {
             return;
         }
         for (outstation, bell) in (0..OUTSTATIONS).zip(&self.outstations) {
-            if roused.has_outstation(outstation) {
+            if wake_set.has_outstation(outstation) {
                 bell.ring();
             }
         }
         for (client, bell) in (0..CLIENTS).zip(&self.clients) {
-            if roused.has_client(client) {
+            if wake_set.has_client(client) {
                 bell.ring();
             }
         }

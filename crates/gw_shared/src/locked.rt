@@ -19,8 +19,8 @@ use crate::pumped::{PumpRun, Pumped};
 use gw_ends::{Batch, LONGEST_APDU, apdu_in};
 use gw_model::{Memory, Observation};
 use gw_record::{
-    Awake, Figures, Load, Machine, NewsPiece, Pace, Recorder, Reply, Roused, Step, StepFault,
-    StepKind, Tally,
+    AwakeWriters, Figures, Load, Machine, NewsPiece, Pacing, Recorder, Reply, Step, StepFault,
+    StepKind, Tally, WakeSet,
 };
 use one_log::Head;
 use std::alloc::Global;
@@ -40,8 +40,8 @@ pub struct Core<L: Course, M: Machine> {
     book: Book<L>,
     head: Head<Made, L>,
     tally: Tally,
-    awake: Awake,
-    pace: Pace,
+    awake_writers: AwakeWriters,
+    pacing: Pacing,
 }
 
 impl<L: Course, M: Machine> Model for Core<L, M> {
@@ -91,8 +91,8 @@ impl<L: Course, M: Machine> Core<L, M> {
             book,
             head,
             tally: Tally::new(),
-            awake: Awake::nobody(),
-            pace: Pace::new(),
+            awake_writers: AwakeWriters::nobody(),
+            pacing: Pacing::new(),
         })
     }
 
@@ -136,32 +136,32 @@ impl<L: Course, M: Machine> Core<L, M> {
         &mut self,
         pass: &mut Pass<L>,
         step: Step,
-    ) -> ((u64, Result<Reply, StepFault>), Roused)
+    ) -> ((u64, Result<Reply, StepFault>), WakeSet)
         requires may { MayMake L.roles pass.old.actor step }
         ensures step { Steps L.setup self.old self.new pass.old pass.new step result.0 }
         ensures answers { Answers L.setup pass.old pass.new step result.0 }
     {
         let (kind, moment) = (step.kind(), step.moment());
         let answer = self.step(pass, step);
-        let roused = self.rouse(pass, kind, moment, &answer.1);
-        (answer, roused)
+        let wake_set = self.wake(pass, kind, moment, &answer.1);
+        (answer, wake_set)
     }
 
     /// Those of the workers to whom the newest call of a pass may bring something for whom the bell has to ring.
-    fn rouse(
+    fn wake(
         &mut self,
         pass: &Pass<L>,
         kind: StepKind,
         moment: u64,
         reply: &Result<Reply, StepFault>,
-    ) -> Roused
+    ) -> WakeSet
         ensures { self.new ≡ self.old }
     {
-        self.pace.settle(kind, moment, reply, pass.effects());
-        self.awake.told(kind, reply);
+        self.pacing.settle(kind, moment, reply, pass.effects());
+        self.awake_writers.told(kind, reply);
         match reply {
-            Ok(_) => self.awake.rouse(Roused::by(pass.effects())),
-            Err(_) => Roused::nobody(),
+            Ok(_) => self.awake_writers.wake(WakeSet::by(pass.effects())),
+            Err(_) => WakeSet::nobody(),
         }
     }
 
@@ -218,7 +218,7 @@ impl<L: Course, M: Machine> Core<L, M> {
         match apdu_in(answer) {
             Some(apdu) => {
                 batch.add(apdu.as_slice());
-                self.pace.note(client, moment);
+                self.pacing.note(client, moment);
                 None
             }
             None => Some(Pumped::Ended(answer)),
@@ -289,14 +289,14 @@ impl<L: Course, M: Machine> Core<L, M> {
     pub fn is_outrun(&mut self, load: Load, moment: u64) -> bool
         ensures { self.new ≡ self.old }
     {
-        self.pace.is_outrun(load, &self.machine, moment)
+        self.pacing.is_outrun(load, &self.machine, moment)
     }
 
     /// For how many milliseconds an outstation isn't to be asked, before this is to be asked again.
     pub fn rest(&mut self, outstation: u8, moment: u64) -> u64
         ensures { self.new ≡ self.old }
     {
-        self.pace.rest(outstation, &self.machine, moment)
+        self.pacing.rest(outstation, &self.machine, moment)
     }
 
     /// What is counted.
@@ -342,8 +342,8 @@ impl<L: Course, M: Machine> Core<L, M> {
             book: _,
             head: _,
             tally: _,
-            awake: _,
-            pace: _,
+            awake_writers: _,
+            pacing: _,
         } = self;
         (machine, recorder)
     }

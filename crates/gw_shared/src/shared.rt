@@ -14,7 +14,7 @@ use gw_bell::Bell;
 use gw_ends::Batch;
 use gw_model::{Memory, Observation};
 use gw_record::{
-    Effects, Figures, Load, Machine, NewsPiece, Recorder, Reply, Roused, Step, StepFault,
+    Effects, Figures, Load, Machine, NewsPiece, Recorder, Reply, Step, StepFault, WakeSet,
 };
 use one_log::{Head, Opened};
 use std::alloc::Global;
@@ -182,8 +182,8 @@ impl<L: Course, M: Machine> Calls<L> for Shared<L, M> {
         pass: &mut Pass<L>,
         step: Step,
     ) -> (u64, Result<Reply, StepFault>) {
-        let (answer, roused) = self.core.lock(rt).answer(pass, step);
-        self.bells.ring(roused);
+        let (answer, wake_set) = self.core.lock(rt).answer(pass, step);
+        self.bells.ring(wake_set);
         answer
     }
 
@@ -232,7 +232,7 @@ impl<L: Course, M: Machine> Calls<L> for Shared<L, M> {
 
     fn stop(&self) {
         self.stopping.store(true, Ordering::SeqCst);
-        self.bells.ring(Roused::everybody());
+        self.bells.ring(WakeSet::everybody());
     }
 
     fn stopping(&self) -> bool {

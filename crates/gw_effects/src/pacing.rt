@@ -1,7 +1,7 @@
 //! How peers keep up: whether clients have room for what outstations bring, and when outstations are let rest.
 
-use crate::hold::{Hold, Load};
-use crate::streak::{Asked, RequestStreak};
+use crate::holdback::{Holdback, Load};
+use crate::streak::{AskedFor, RequestStreak};
 use gw_model::{CLIENTS, OUTSTATIONS};
 use gw_steps::{Effects, Machine, Reply, Reported, StepFault, StepKind, Verdict};
 
@@ -12,7 +12,7 @@ const READS_MS: u64 = 2000;
 /// How an outstation is served.
 #[derive(Clone, Copy)]
 struct Service {
-    hold: Hold,
+    holdback: Holdback,
     streak: RequestStreak,
 }
 
@@ -20,7 +20,7 @@ impl Service {
     /// Of an outstation that was just connected.
     fn new() -> Service {
         Service {
-            hold: Hold::new(),
+            holdback: Holdback::new(),
             streak: RequestStreak::new(),
         }
     }
@@ -28,7 +28,7 @@ impl Service {
     /// A fragment was accepted at a moment, which brought so many news; where it ends an answer, a further request is due, or
     /// none.
     fn accept(&mut self, reported: Reported, moment: u64, news: u64, ends: bool, is_due: bool) {
-        self.hold.take(reported.observations as u64);
+        self.holdback.take(reported.observations as u64);
         if reported.is_unsolicited {
             return;
         }
@@ -43,15 +43,15 @@ impl Service {
 
 /// For each client the moment at which it was last given an APDU, or acknowledged one, and how each outstation is served.
 #[derive(Clone, Copy)]
-pub struct Pace {
+pub struct Pacing {
     read: [Option<u64>; CLIENTS as usize],
     services: [Service; OUTSTATIONS as usize],
 }
 
-impl Pace {
+impl Pacing {
     /// No client was given any, and no outstation asked.
-    pub fn new() -> Pace {
-        Pace {
+    pub fn new() -> Pacing {
+        Pacing {
             read: [None; CLIENTS as usize],
             services: [Service::new(); OUTSTATIONS as usize],
         }
@@ -102,7 +102,7 @@ impl Pace {
             return;
         };
         if let (Ok(Reply::Request(_)), Some(task)) = (reply, effects.task()) {
-            service.streak.ask(Asked::by(task), moment);
+            service.streak.ask(AskedFor::by(task), moment);
         }
     }
 
@@ -122,7 +122,7 @@ impl Pace {
                 let is_due = !effects.due_outstations().is_empty();
                 service.accept(reported, moment, effects.news(), *end, is_due);
             }
-            _ => service.hold.let_go(),
+            _ => service.holdback.let_go(),
         }
     }
 
@@ -139,7 +139,7 @@ impl Pace {
         let lacks_room = self.lack_room(load.outstation, load.size, machine, moment);
         let has_order = has_order(load.outstation, machine);
         match self.services.get_mut(usize::from(load.outstation)) {
-            Some(service) => service.hold.waits(load, moment, lacks_room, has_order),
+            Some(service) => service.holdback.waits(load, moment, lacks_room, has_order),
             None => false,
         }
     }
@@ -154,7 +154,7 @@ impl Pace {
         let Some(service) = self.services.get_mut(usize::from(outstation)) else {
             return 0;
         };
-        let rest = service.hold.rest_at(moment, lacks_room);
+        let rest = service.holdback.rest_at(moment, lacks_room);
         if may_rest {
             rest.max(service.streak.rest_at(moment))
         } else {
@@ -165,7 +165,7 @@ impl Pace {
     /// How many observations an outstation brought last.
     fn brought(&self, outstation: u8) -> u64 {
         match self.services.get(usize::from(outstation)) {
-            Some(service) => service.hold.brought(),
+            Some(service) => service.holdback.brought(),
             None => 0,
         }
     }
@@ -184,13 +184,13 @@ impl Pace {
     /// For how many observations of others an outstation that brings so many has to leave room at a moment.
     fn kept_for_others(&self, outstation: u8, size: u64, moment: u64) -> u64 {
         let began = match self.services.get(usize::from(outstation)) {
-            Some(service) => service.hold.began(moment),
+            Some(service) => service.holdback.began(moment),
             None => moment,
         };
         let mut kept: u64 = 0;
         for (other, service) in (0..OUTSTATIONS).zip(&self.services) {
             if other != outstation {
-                kept = kept.saturating_add(service.hold.precedes(size, began));
+                kept = kept.saturating_add(service.holdback.precedes(size, began));
             }
         }
         kept

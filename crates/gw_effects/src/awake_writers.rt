@@ -1,20 +1,20 @@
 //! Which writers needn't be rung for.
 
-use crate::roused::Roused;
+use crate::wake_set::WakeSet;
 use gw_steps::{Reply, StepFault, StepKind};
 
 /// The writers of clients that are awake: each that was rung for and hasn't been told since that nothing is due. It
 /// asks again before it sleeps, so whoever steps meanwhile needn't ring.
 #[derive(Clone, Copy)]
-pub struct Awake {
-    writers: Roused,
+pub struct AwakeWriters {
+    writers: WakeSet,
 }
 
-impl Awake {
+impl AwakeWriters {
     /// All sleep.
-    pub fn nobody() -> Awake {
-        Awake {
-            writers: Roused::nobody(),
+    pub fn nobody() -> AwakeWriters {
+        AwakeWriters {
+            writers: WakeSet::nobody(),
         }
     }
 
@@ -28,7 +28,7 @@ impl Awake {
     }
 
     /// Those of the workers that may have something to do for whom the bell has to ring; they are awake then.
-    pub fn rouse(&mut self, due: Roused) -> Roused {
+    pub fn wake(&mut self, due: WakeSet) -> WakeSet {
         let asleep = due.without_clients_of(self.writers);
         self.writers = self.writers.with_clients_of(due);
         asleep

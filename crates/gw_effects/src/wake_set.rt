@@ -5,61 +5,61 @@ use gw_steps::Effects;
 
 /// The writers towards outstations, and those of clients, that may have something to do: a bit for each.
 #[derive(Clone, Copy)]
-pub struct Roused {
+pub struct WakeSet {
     outstations: u32,
     clients: u8,
 }
 
-impl Roused {
+impl WakeSet {
     /// No worker.
-    pub fn nobody() -> Roused {
-        Roused {
+    pub fn nobody() -> WakeSet {
+        WakeSet {
             outstations: 0,
             clients: 0,
         }
     }
 
     /// All workers.
-    pub fn everybody() -> Roused {
-        Roused {
+    pub fn everybody() -> WakeSet {
+        WakeSet {
             outstations: u32::MAX,
             clients: u8::MAX,
         }
     }
 
     /// Those of which a step tells.
-    pub fn by(effects: &Effects) -> Roused {
-        let mut roused = Roused::nobody();
+    pub fn by(effects: &Effects) -> WakeSet {
+        let mut wake_set = WakeSet::nobody();
         for outstation in effects.due_outstations() {
-            roused.outstations |= outstation_bit(*outstation);
+            wake_set.outstations |= outstation_bit(*outstation);
         }
         for (client, is_due) in (0..CLIENTS).zip(effects.due_clients()) {
             if is_due {
-                roused.clients |= client_bit(client);
+                wake_set.clients |= client_bit(client);
             }
         }
-        roused
+        wake_set
     }
 
     /// These but for the writers of clients that others have already.
-    pub fn without_clients_of(self, others: Roused) -> Roused {
-        Roused {
+    pub fn without_clients_of(self, others: WakeSet) -> WakeSet {
+        WakeSet {
             clients: self.clients & !others.clients,
             ..self
         }
     }
 
     /// These, and the writers of clients that others have.
-    pub fn with_clients_of(self, others: Roused) -> Roused {
-        Roused {
+    pub fn with_clients_of(self, others: WakeSet) -> WakeSet {
+        WakeSet {
             clients: self.clients | others.clients,
             ..self
         }
     }
 
     /// These but for a client's writer.
-    pub fn without_client(self, client: u8) -> Roused {
-        Roused {
+    pub fn without_client(self, client: u8) -> WakeSet {
+        WakeSet {
             clients: self.clients & !client_bit(client),
             ..self
         }

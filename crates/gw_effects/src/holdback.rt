@@ -22,7 +22,7 @@ pub struct Load {
 /// How an outstation is held back, for clients that have no room for what it brings: it isn't asked, and what it sends isn't
 /// taken, for so long together between two fragments. Moments are in milliseconds.
 #[derive(Clone, Copy)]
-pub struct Hold {
+pub struct Holdback {
     /// For how many observations room is kept: those of a fragment that is about to be taken.
     kept: u64,
     /// For how many it waits.
@@ -39,10 +39,10 @@ pub struct Hold {
     since: Option<u64>,
 }
 
-impl Hold {
+impl Holdback {
     /// Of an outstation that sent nothing.
-    pub fn new() -> Hold {
-        Hold {
+    pub fn new() -> Holdback {
+        Holdback {
             kept: 0,
             wanted: 0,
             began: None,
@@ -75,10 +75,10 @@ impl Hold {
 
     /// A fragment of so many observations was taken.
     pub fn take(&mut self, size: u64) {
-        *self = Hold {
+        *self = Holdback {
             brought: size,
             patience: self.patience,
-            ..Hold::new()
+            ..Holdback::new()
         };
     }
 
