@@ -25,9 +25,9 @@ const PIECES: u32 = 10;
 
 /// Writes events to a file as they come.
 #[derive(Drop)]
-pub struct EventWriter<'a, S, H, C> {
+pub struct EventWriter<'a, S, R, C> {
     alloc: Global,
-    host: &'a H,
+    system: &'a R,
     clock: &'a C,
     points: &'a Points,
     queue: &'a EventQueue,
@@ -43,20 +43,20 @@ pub struct EventWriter<'a, S, H, C> {
     told_at: Option<u64>,
 }
 
-impl<'a, S: Files<File = File> + AllocGlobal, H: Wait + Sleeps, C: Clock> EventWriter<'a, S, H, C> {
+impl<'a, S: Files<File = File> + AllocGlobal, R: Wait + Sleeps, C: Clock> EventWriter<'a, S, R, C> {
     /// Nothing is written yet.
     pub fn new(
         alloc: Global,
-        host: &'a H,
+        system: &'a R,
         clock: &'a C,
         points: &'a Points,
         queue: &'a EventQueue,
         journal: &'a Journal,
         file: EventFile<'a, S>,
-    ) -> EventWriter<'a, S, H, C> {
+    ) -> EventWriter<'a, S, R, C> {
         EventWriter {
             alloc,
-            host,
+            system,
             clock,
             points,
             queue,
@@ -73,7 +73,7 @@ impl<'a, S: Files<File = File> + AllocGlobal, H: Wait + Sleeps, C: Clock> EventW
     /// Writes until no more come and all are written.
     pub fn write_all(self) {
         let mut writer = self;
-        for _ in writer.host.forever() {
+        for _ in writer.system.forever() {
             if !writer.write_next() {
                 break;
             }
@@ -85,16 +85,16 @@ impl<'a, S: Files<File = File> + AllocGlobal, H: Wait + Sleeps, C: Clock> EventW
     fn write_next(&mut self) -> bool {
         let rung = self.queue.bell().rung();
         let mut entries = Vec::new(self.alloc);
-        let Ok(is_end) = self.queue.take(self.host, AT_ONCE, &mut entries) else {
+        let Ok(is_end) = self.queue.take(self.system, AT_ONCE, &mut entries) else {
             self.pause();
-            return !self.queue.is_closed(self.host);
+            return !self.queue.is_closed(self.system);
         };
         if !entries.is_empty() {
             self.write(&entries);
         } else if !is_end {
             self.queue
                 .bell()
-                .wait_for(self.host, rung, Duration::from_secs(1));
+                .wait_for(self.system, rung, Duration::from_secs(1));
         }
         self.tell_left_out(TELLING_MS);
         !is_end
@@ -120,8 +120,8 @@ impl<'a, S: Files<File = File> + AllocGlobal, H: Wait + Sleeps, C: Clock> EventW
 
     /// Writes the lines that are made. Where they go to a pipe that nobody reads, they wait until somebody does, or no more come.
     fn hand_over(&mut self) -> io::Result<()> {
-        for _ in self.host.forever() {
-            if !self.file.awaits_reader() || self.queue.is_closed(self.host) {
+        for _ in self.system.forever() {
+            if !self.file.awaits_reader() || self.queue.is_closed(self.system) {
                 break;
             }
             self.pause();
@@ -152,10 +152,10 @@ impl<'a, S: Files<File = File> + AllocGlobal, H: Wait + Sleeps, C: Clock> EventW
     /// Lets a second pass, or less where no more come.
     fn pause(&self) {
         for _ in 0..PIECES {
-            if self.queue.is_closed(self.host) {
+            if self.queue.is_closed(self.system) {
                 return;
             }
-            thread::sleep(self.host, Duration::from_millis(PIECE_MS));
+            thread::sleep(self.system, Duration::from_millis(PIECE_MS));
         }
     }
 
@@ -204,6 +204,6 @@ impl<'a, S: Files<File = File> + AllocGlobal, H: Wait + Sleeps, C: Clock> EventW
     }
 
     fn tell(&self, event: JournalEvent) {
-        self.journal.tell(self.host, self.clock.wall(), event);
+        self.journal.tell(self.system, self.clock.wall(), event);
     }
 }

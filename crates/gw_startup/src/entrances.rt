@@ -20,13 +20,13 @@ impl Entrances {
     /// Listens for control centres, and for those who ask for the status.
     pub fn open<'a, N: Net<Listener = TcpListener, Stream = TcpStream>>(
         alloc: Global,
-        host: &N,
+        system: &N,
         settings: &Settings,
         asked: &RunOptions<'a>,
     ) -> Result<Entrances, Unserved<'a>> {
         let allow = networks_of(alloc, &asked.allow)?;
-        let status = status_listener(host, asked.status)?;
-        let listener = listener_of(alloc, host, settings)?;
+        let status = status_listener(system, asked.status)?;
+        let listener = listener_of(alloc, system, settings)?;
         Ok(Entrances {
             allow,
             status,
@@ -38,10 +38,10 @@ impl Entrances {
 /// Listens for control centres.
 fn listener_of<'a, N: Net<Listener = TcpListener, Stream = TcpStream>>(
     alloc: Global,
-    host: &N,
+    system: &N,
     settings: &Settings,
 ) -> Result<TcpListener, Unserved<'a>> {
-    match TcpListener::bind(host, settings.station().listen.as_str()) {
+    match TcpListener::bind(system, settings.station().listen.as_str()) {
         Ok(listener) => Ok(listener),
         Err(error) => {
             let place = String::from_str(alloc, settings.station().listen.as_str())?;
@@ -65,11 +65,11 @@ fn networks_of<'a>(alloc: Global, texts: &[&str]) -> Result<Vec<Network>, Unserv
 
 /// Listens where the status is to be served, if it is.
 fn status_listener<'a, N: Net<Listener = TcpListener, Stream = TcpStream>>(
-    host: &N,
+    system: &N,
     place: Option<&'a str>,
 ) -> Result<Option<TcpListener>, Unserved<'a>> {
     match place {
-        Some(place) => match TcpListener::bind(host, place) {
+        Some(place) => match TcpListener::bind(system, place) {
             Ok(listener) => Ok(Some(listener)),
             Err(error) => {
                 let failure = failure_at(place, error.kind());

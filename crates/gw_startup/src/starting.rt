@@ -16,15 +16,19 @@ const ERROR: &str = "<3>";
 /// Tells a journal at a wall time that the gateway starts, and what reads like a slip in its settings.
 pub fn tell_start<W: Wait>(
     alloc: Global,
-    host: &W,
+    system: &W,
     journal: &Journal,
     wall: u64,
     settings: &Settings,
     source: Source<'_>,
     shows_values: bool,
 ) -> Result<(), AllocError> {
-    journal.tell(host, wall, started(alloc, settings, source, shows_values)?);
-    tell_doubts(alloc, host, journal, wall, settings)
+    journal.tell(
+        system,
+        wall,
+        started(alloc, settings, source, shows_values)?,
+    );
+    tell_doubts(alloc, system, journal, wall, settings)
 }
 
 /// Whether standard error goes to journald, which takes a priority in front of a line.
