@@ -1,14 +1,14 @@
 //! Clients that connect.
 
-use crate::door::Door;
+use crate::acceptor::Acceptor;
 use crate::listener::{look_up_from_accept, stay_in_accept};
-use crate::lobby::{Lobby, Visit};
 use crate::refusals::Refusals;
-use crate::waiting_visits::{WaitingVisit, WaitingVisits};
+use crate::slots::{AcceptedClient, Slots};
+use crate::waiting_clients::{WaitingClient, WaitingClients};
 use gw_clock::Clock;
 use gw_journal::{Failure, JournalEvent};
 use gw_model::Memory;
-use gw_peers::{Desk, Hold};
+use gw_peers::{ClientConnection, Reporter};
 use std::alloc::Global;
 use std::io::ErrorKind;
 use std::net::IpAddr;
@@ -20,41 +20,41 @@ use std::time::Duration;
 /// The milliseconds until it is tried again where no connection could be accepted.
 const PAUSE_MS: u64 = 1000;
 
-/// The milliseconds until it is looked again for a place, where nobody may be accepted meanwhile.
+/// The milliseconds until it is looked again for a slot, where nobody may be accepted meanwhile.
 const LOOK_MS: u64 = 100;
 
 /// How far accepting has come.
 #[derive(Drop)]
-struct Reception {
+struct Accepting {
     /// How many clients may still come, if that is bounded.
     left: Option<u32>,
     /// How many have come.
     order: u64,
     refusals: Refusals,
-    /// Those that came and have no place yet.
-    waiting: WaitingVisits,
+    /// Those that came and have no slot yet.
+    waiting: WaitingClients,
     /// The listener comes back from its waits.
     looks_up: bool,
 }
 
-impl Reception {
+impl Accepting {
     /// Nobody has come, and so many may, if that is bounded.
-    fn new(alloc: Global, sessions: Option<u32>) -> Reception {
-        Reception {
+    fn new(alloc: Global, sessions: Option<u32>) -> Accepting {
+        Accepting {
             left: sessions,
             order: 0,
             refusals: Refusals::new(alloc),
-            waiting: WaitingVisits::new(alloc),
+            waiting: WaitingClients::new(alloc),
             looks_up: false,
         }
     }
 
-    /// One more client comes, and waits for a place.
-    fn admit(&mut self, visit: Visit) -> Result<(), Memory> {
+    /// One more client comes, and waits for a slot.
+    fn admit(&mut self, client: AcceptedClient) -> Result<(), Memory> {
         let order = self.order;
         self.left = self.left.map(|count| count.saturating_sub(1));
         self.order = order.saturating_add(1);
-        self.waiting.add(visit, order)
+        self.waiting.add(client, order)
     }
 
     /// Whether one more may come.
@@ -67,108 +67,124 @@ impl Reception {
         self.left == Some(0) && self.waiting.is_empty()
     }
 
-    /// Lets the listener come back from its waits while clients wait for a place, and where it has to see the end of
+    /// Lets the listener come back from its waits while clients wait for a slot, and where it has to see the end of
     /// standard input.
-    fn look_up(&mut self, door: &Door<'_>) {
-        let looks_up = door.until_eof.is_some() || !self.waiting.is_empty();
+    fn look_up(&mut self, acceptor: &Acceptor<'_>) {
+        let looks_up = acceptor.until_eof.is_some() || !self.waiting.is_empty();
         if looks_up == self.looks_up {
             return;
         }
         self.looks_up = looks_up;
         if looks_up {
-            look_up_from_accept(door.listener);
+            look_up_from_accept(acceptor.listener);
         } else {
-            stay_in_accept(door.listener);
+            stay_in_accept(acceptor.listener);
         }
     }
 }
 
-/// Accepts clients, and gives each a place once one is free, until there were as many as there may be, or standard input
+/// Accepts clients, and gives each a slot once one is free, until there were as many as there may be, or standard input
 /// has ended.
-pub fn accept<R: Wait + Sleeps, C: Clock>(desk: &Desk<'_, R, C>, lobby: &Lobby, door: &Door<'_>) {
-    if let Ok(address) = door.listener.local_addr() {
-        desk.tell(JournalEvent::Listening(address));
+pub fn accept<R: Wait + Sleeps, C: Clock>(
+    reporter: &Reporter<'_, R, C>,
+    slots: &Slots,
+    acceptor: &Acceptor<'_>,
+) {
+    if let Ok(address) = acceptor.listener.local_addr() {
+        reporter.tell(JournalEvent::Listening(address));
     }
-    let mut reception = Reception::new(desk.alloc, door.sessions);
-    for _ in desk.rt.forever() {
-        seat_waiting(desk, lobby, &mut reception.waiting);
-        if reception.is_over() || lobby.has_ended(desk.rt) {
+    let mut accepting = Accepting::new(reporter.alloc, acceptor.sessions);
+    for _ in reporter.rt.forever() {
+        assign_waiting(reporter, slots, &mut accepting.waiting);
+        if accepting.is_over() || slots.has_ended(reporter.rt) {
             return;
         }
-        reception.look_up(door);
-        if reception.has_room() {
-            accept_next(desk, door, &mut reception);
+        accepting.look_up(acceptor);
+        if accepting.has_room() {
+            accept_next(reporter, acceptor, &mut accepting);
         } else {
-            thread::sleep(desk.rt, Duration::from_millis(LOOK_MS));
+            thread::sleep(reporter.rt, Duration::from_millis(LOOK_MS));
         }
     }
 }
 
 /// Accepts the next client, if one comes in time.
 fn accept_next<R: Wait + Sleeps, C: Clock>(
-    desk: &Desk<'_, R, C>,
-    door: &Door<'_>,
-    reception: &mut Reception,
+    reporter: &Reporter<'_, R, C>,
+    acceptor: &Acceptor<'_>,
+    accepting: &mut Accepting,
 ) {
-    match door.listener.accept() {
+    match acceptor.listener.accept() {
         Ok((stream, address)) => {
-            if door.lets_in(address.ip()) {
-                if reception.admit(Visit { stream, address }).is_err() {
-                    desk.tell(JournalEvent::NotAccepted(Failure::Memory));
+            if acceptor.allows(address.ip()) {
+                if accepting.admit(AcceptedClient { stream, address }).is_err() {
+                    reporter.tell(JournalEvent::NotAccepted(Failure::Memory));
                 }
             } else {
-                refuse(desk, &mut reception.refusals, address.ip());
+                refuse(reporter, &mut accepting.refusals, address.ip());
             }
         }
         Err(error) if error.kind() == ErrorKind::WouldBlock => {}
         Err(error) => {
-            desk.tell(JournalEvent::NotAccepted(Failure::from(error.kind())));
-            thread::sleep(desk.rt, Duration::from_millis(PAUSE_MS));
+            reporter.tell(JournalEvent::NotAccepted(Failure::from(error.kind())));
+            thread::sleep(reporter.rt, Duration::from_millis(PAUSE_MS));
         }
     }
 }
 
 /// Counts somebody who isn't allowed, and tells of it, unless that was told not long ago.
-fn refuse<R: Wait, C: Clock>(desk: &Desk<'_, R, C>, refusals: &mut Refusals, address: IpAddr) {
-    desk.board.refuse_connection();
-    if let Some(left_out) = refusals.ask(address, desk.clock.wall()) {
-        desk.tell(JournalEvent::NotAllowed { address, left_out });
+fn refuse<R: Wait, C: Clock>(
+    reporter: &Reporter<'_, R, C>,
+    refusals: &mut Refusals,
+    address: IpAddr,
+) {
+    reporter.peers.refuse_connection();
+    if let Some(left_out) = refusals.ask(address, reporter.clock.wall()) {
+        reporter.tell(JournalEvent::NotAllowed { address, left_out });
     }
 }
 
-/// Gives those that wait the places that are free. Where none is, one of the address of each that waits gives way, if one
+/// Gives those that wait the slots that are free. Where none is, one of the address of each that waits gives way, if one
 /// there seems to be dead.
-fn seat_waiting<R: Wait, C: Clock>(
-    desk: &Desk<'_, R, C>,
-    lobby: &Lobby,
-    waiting: &mut WaitingVisits,
+fn assign_waiting<R: Wait, C: Clock>(
+    reporter: &Reporter<'_, R, C>,
+    slots: &Slots,
+    waiting: &mut WaitingClients,
 ) {
-    for _ in desk.rt.forever() {
+    for _ in reporter.rt.forever() {
         if waiting.is_empty() {
             return;
         }
-        let Some(place) = lobby.free_place(desk.rt) else {
+        let Some(slot) = slots.free_slot(reporter.rt) else {
             break;
         };
-        if let Some(visitor) = waiting.next() {
-            seat(desk, lobby, place, visitor);
+        if let Some(next) = waiting.next() {
+            assign(reporter, slots, slot, next);
         }
     }
-    waiting.make_way(desk.rt, desk.board, desk.clock.moment());
-    if let Some(left_out) = lobby.taken(desk.rt, desk.clock.wall()) {
-        desk.tell(JournalEvent::AllPlacesTaken { left_out });
+    waiting.make_way(reporter.rt, reporter.peers, reporter.clock.moment());
+    if let Some(left_out) = slots.taken(reporter.rt, reporter.clock.wall()) {
+        reporter.tell(JournalEvent::AllPlacesTaken { left_out });
     }
 }
 
-/// Gives a client its place.
-fn seat<R: Wait, C: Clock>(desk: &Desk<'_, R, C>, lobby: &Lobby, place: u8, visitor: WaitingVisit) {
-    let WaitingVisit { visit, order, .. } = visitor;
-    let address = visit.address;
-    if let Some(card) = desk.board.client(place) {
-        let moment = desk.clock.moment();
-        card.seat(desk.rt, Hold::by(&visit.stream, address, order, moment));
+/// Gives a client its slot.
+fn assign<R: Wait, C: Clock>(
+    reporter: &Reporter<'_, R, C>,
+    slots: &Slots,
+    slot: u8,
+    next: WaitingClient,
+) {
+    let WaitingClient { client, order, .. } = next;
+    let address = client.address;
+    if let Some(record) = reporter.peers.client(slot) {
+        let moment = reporter.clock.moment();
+        record.assign(
+            reporter.rt,
+            ClientConnection::new(&client.stream, address, order, moment),
+        );
     }
-    if let Some(left_out) = lobby.seat(desk.rt, place, visit, desk.clock.wall()) {
-        desk.tell(JournalEvent::AllPlacesTaken { left_out });
+    if let Some(left_out) = slots.assign(reporter.rt, slot, client, reporter.clock.wall()) {
+        reporter.tell(JournalEvent::AllPlacesTaken { left_out });
     }
 }

@@ -1,7 +1,7 @@
 //! Standard input, whose end asks the server to end.
 
-use crate::door::Door;
-use crate::lobby::Lobby;
+use crate::acceptor::Acceptor;
+use crate::slots::Slots;
 use std::io::{ErrorKind, Lock, Read, Stdin};
 use std::sync::Wait;
 
@@ -10,10 +10,10 @@ const PIECE: usize = 512;
 
 /// Waits until standard input ends, or can't be read, where that is to end the server; then no further client is
 /// accepted.
-pub fn await_end<R: Wait>(rt: &R, lobby: &Lobby, door: &Door<'_>) {
-    if let Some(stdin) = door.until_eof {
+pub fn await_end<R: Wait>(rt: &R, slots: &Slots, acceptor: &Acceptor<'_>) {
+    if let Some(stdin) = acceptor.until_eof {
         read_to_end(rt, &stdin);
-        lobby.end(rt);
+        slots.end(rt);
     }
 }
 

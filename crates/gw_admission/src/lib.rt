@@ -1,18 +1,18 @@
-//! Clients that connect: where they come in, which of them may, the places that they get, and those that wait for one.
+//! Clients that connect: what accepts them, which of them may, the slots that they get, and those that wait for one.
 #![tactic(auto)]
 
 mod accepting;
-mod door;
+mod acceptor;
 mod input;
 mod listener;
-mod lobby;
 mod network;
 mod refusals;
-mod waiting_visits;
+mod slots;
+mod waiting_clients;
 
 pub use accepting::accept;
-pub use door::Door;
+pub use acceptor::Acceptor;
 pub use input::await_end;
 pub use listener::look_up_from_accept;
-pub use lobby::{Lobby, Visit};
 pub use network::Network;
+pub use slots::{AcceptedClient, Slots};

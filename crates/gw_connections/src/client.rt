@@ -1,14 +1,14 @@
-//! One place for clients: its workers, client after client.
+//! One slot for clients: its workers, client after client.
 ghost use Rattle.std.specs.Thread.{IsSend, IsSync};
 
 use crate::ending::Ending;
-use crate::host::Host;
-use crate::house::{House, is_made};
 use crate::passes::{Passes, PumpPass};
+use crate::server::{Server, is_made};
 use crate::sockets::ClientSocket;
-use gw_admission::{Lobby, Visit};
+use crate::system::System;
+use gw_admission::{AcceptedClient, Slots};
 use gw_journal::{Cause, JournalEvent};
-use gw_peers::{Desk, shut};
+use gw_peers::{Reporter, shut};
 use gw_readers::{
     Calls, Clock, Course, Gate, Pass, Step, Why, WorkerEnd, client_reader, client_writer,
 };
@@ -17,10 +17,10 @@ use std::rt::Clock as Sleeps;
 use std::sync::Wait;
 use std::thread;
 
-/// The passes of the workers of a place for clients.
+/// The passes of the workers of a slot for clients.
 pub type ClientPasses<L> = Passes<L, PumpPass<L>>;
 
-/// A connection to the client at a place.
+/// A connection to the client at a slot.
 #[derive(Drop)]
 struct Connection<'b> {
     stream: &'b TcpStream,
@@ -33,20 +33,20 @@ impl<'b> Connection<'b> {
     /// The reader, and the end of its connection.
     fn read<L: Course, S: Calls<L>, R: Wait, C: Clock, G: Gate>(
         &self,
-        house: &House<'_, S, R, C, G>,
+        server: &Server<'_, S, R, C, G>,
         pass: Pass<L>,
     ) -> (Pass<L>, WorkerEnd) {
         let mut input = self.socket;
-        let (desk, shared) = (house.desk, house.shared);
+        let (reporter, shared) = (server.reporter, server.shared);
         let ended = client_reader(
-            desk.alloc,
-            desk.rt,
+            reporter.alloc,
+            reporter.rt,
             shared,
             pass,
             self.client,
             &mut input,
-            desk.clock,
-            house.gate,
+            reporter.clock,
+            server.gate,
         );
         self.ending.reader();
         shut(self.stream);
@@ -56,20 +56,20 @@ impl<'b> Connection<'b> {
     /// The writer, and the end of its connection.
     fn write<L: Course, S: Calls<L>, R: Wait + Sleeps, C: Clock, G: Gate>(
         &self,
-        house: &House<'_, S, R, C, G>,
+        server: &Server<'_, S, R, C, G>,
         pass: PumpPass<L>,
     ) -> (PumpPass<L>, WorkerEnd) {
         let mut output = self.socket;
-        let (desk, shared) = (house.desk, house.shared);
+        let (reporter, shared) = (server.reporter, server.shared);
         let (pass, client) = pass.into_parts();
         let (pass, end) = client_writer(
-            desk.rt,
+            reporter.rt,
             shared,
             pass,
             client,
             &mut output,
-            desk.clock,
-            house.gate,
+            reporter.clock,
+            server.gate,
         );
         self.end_writer();
         (PumpPass::new(pass, client), end)
@@ -83,26 +83,32 @@ impl<'b> Connection<'b> {
 }
 
 /// Both workers of a connection, the writer in a thread of its own, until both have ended; why it ended.
-fn exchange<L: Course + Send + Sync, S: Calls<L> + Sync, R: Host, C: Clock + Sync, G: Gate + Sync>(
-    house: &House<'_, S, R, C, G>,
+fn exchange<
+    L: Course + Send + Sync,
+    S: Calls<L> + Sync,
+    R: System,
+    C: Clock + Sync,
+    G: Gate + Sync,
+>(
+    server: &Server<'_, S, R, C, G>,
     connection: &Connection<'_>,
     passes: ClientPasses<L>,
 ) -> (ClientPasses<L>, Cause) {
     let Passes { reader, writer } = passes;
     let ((reader, read), (writer, written)) = thread::scope(
         thread::scope_env(),
-        house.desk.rt,
+        server.reporter.rt,
         move |scope| -> ((Pass<L>, WorkerEnd), (PumpPass<L>, WorkerEnd))
             requires { IsSend L.row × IsSync L.row × IsSync S.row × IsSync R.row × IsSync C.row × IsSync G.row }
         {
-            let writing = scope.spawn(move || connection.write(house, writer));
+            let writing = scope.spawn(move || connection.write(server, writer));
             if writing.is_err() {
                 // No thread can be made: the reader finds the connection shut, and the writer its peer down.
                 connection.end_writer();
             }
-            let read = connection.read(house, reader);
+            let read = connection.read(server, reader);
             match writing {
-                Ok(thread) => (read, thread.join(house.desk.rt)),
+                Ok(thread) => (read, thread.join(server.reporter.rt)),
                 Err(refused) => (read, ((refused.value)().0, WorkerEnd::Memory)),
             }
         },
@@ -111,71 +117,79 @@ fn exchange<L: Course + Send + Sync, S: Calls<L> + Sync, R: Host, C: Clock + Syn
     (Passes { reader, writer }, cause)
 }
 
-/// Serves the clients that get this place, until no further one comes.
-pub fn serve_place<
+/// Serves the clients that get this slot, until no further one comes.
+pub fn serve_slot<
     L: Course + Send + Sync,
     S: Calls<L> + Sync,
-    R: Host,
+    R: System,
     C: Clock + Sync,
     G: Gate + Sync,
->(house: &House<'_, S, R, C, G>, lobby: &Lobby, passes: ClientPasses<L>) -> ClientPasses<L> {
+>(server: &Server<'_, S, R, C, G>, slots: &Slots, passes: ClientPasses<L>) -> ClientPasses<L> {
     let mut passes = passes;
-    let (desk, place) = (house.desk, passes.writer.client());
-    for _ in desk.rt.forever() {
-        let Some(visit) = lobby.next(desk.rt, place) else {
+    let (reporter, slot) = (server.reporter, passes.writer.client());
+    for _ in reporter.rt.forever() {
+        let Some(accepted) = slots.next(reporter.rt, slot) else {
             break;
         };
-        passes = serve_visit(house, place, passes, visit);
-        if lobby.free(desk.rt, place, desk.clock.wall()) {
-            desk.tell(JournalEvent::PlaceFree);
+        passes = serve_client(server, slot, passes, accepted);
+        if slots.free(reporter.rt, slot, reporter.clock.wall()) {
+            reporter.tell(JournalEvent::PlaceFree);
         }
     }
     passes
 }
 
 /// Serves one client.
-fn serve_visit<
+fn serve_client<
     L: Course + Send + Sync,
     S: Calls<L> + Sync,
-    R: Host,
+    R: System,
     C: Clock + Sync,
     G: Gate + Sync,
 >(
-    house: &House<'_, S, R, C, G>,
+    server: &Server<'_, S, R, C, G>,
     client: u8,
     passes: ClientPasses<L>,
-    visit: Visit,
+    accepted: AcceptedClient,
 ) -> ClientPasses<L> {
     let mut passes = passes;
-    let desk = house.desk;
-    let moment = desk.clock.moment();
-    if !is_made(house, &mut passes.reader, Step::ClientUp { client, moment }) {
-        shut(&visit.stream);
-        desk.free_place(client);
+    let reporter = server.reporter;
+    let moment = reporter.clock.moment();
+    if !is_made(
+        server,
+        &mut passes.reader,
+        Step::ClientUp { client, moment },
+    ) {
+        shut(&accepted.stream);
+        reporter.free_slot(client);
         return passes;
     }
-    desk.client_connected(client, visit.address);
-    let (passes, met) = serve_stream(house, client, passes, &visit.stream);
+    reporter.client_connected(client, accepted.address);
+    let (passes, met) = serve_stream(server, client, passes, &accepted.stream);
     // What became of it by the steps of others is told before.
-    desk.board.sequence.settle(desk.rt);
-    let cause = cause_of(desk, client, house.shared.stopping(), met);
-    let dropped = house.shared.figures(desk.rt).dropped;
-    desk.client_lost(client, visit.address, cause, &dropped);
+    reporter.peers.sequence.settle(reporter.rt);
+    let cause = cause_of(reporter, client, server.shared.stopping(), met);
+    let dropped = server.shared.figures(reporter.rt).dropped;
+    reporter.client_lost(client, accepted.address, cause, &dropped);
     passes
 }
 
 /// Why a connection ended, by what its workers met, and by what became of its client: it was made to leave, a tick closed it, or
 /// the server is to end.
-fn cause_of<R: Wait, C>(desk: &Desk<'_, R, C>, client: u8, stopping: bool, met: Cause) -> Cause {
-    let Some(card) = desk.board.client(client) else {
+fn cause_of<R: Wait, C>(
+    reporter: &Reporter<'_, R, C>,
+    client: u8,
+    stopping: bool,
+    met: Cause,
+) -> Cause {
+    let Some(record) = reporter.peers.client(client) else {
         return met;
     };
     match met {
         _ if stopping => Cause::GatewayEnds,
-        Cause::GatewayEnds if card.has_expired(desk.rt) => Cause::Closed(Why::Timer),
-        Cause::EndOfInput | Cause::NotRead(_) | Cause::NotWritten(_) if card.leaves(desk.rt) => {
-            Cause::GaveWay
-        }
+        Cause::GatewayEnds if record.has_expired(reporter.rt) => Cause::Closed(Why::Timer),
+        Cause::EndOfInput | Cause::NotRead(_) | Cause::NotWritten(_)
+            if record.leaves(reporter.rt) => { Cause::GaveWay }
         other => other,
     }
 }
@@ -184,11 +198,11 @@ fn cause_of<R: Wait, C>(desk: &Desk<'_, R, C>, client: u8, stopping: bool, met: 
 fn serve_stream<
     L: Course + Send + Sync,
     S: Calls<L> + Sync,
-    R: Host,
+    R: System,
     C: Clock + Sync,
     G: Gate + Sync,
 >(
-    house: &House<'_, S, R, C, G>,
+    server: &Server<'_, S, R, C, G>,
     client: u8,
     passes: ClientPasses<L>,
     stream: &TcpStream,
@@ -201,5 +215,5 @@ fn serve_stream<
         client,
         socket,
     };
-    exchange(house, &connection, passes)
+    exchange(server, &connection, passes)
 }

@@ -3,14 +3,14 @@ ghost use Rattle.std.specs.Prelude.{◌≡◌, false, None};
 ghost use Rattle.std.specs.Thread.{IsSend, IsSync};
 
 use crate::ending::Ending;
-use crate::host::Host;
-use crate::house::{House, is_made};
 use crate::passes::{Passes, PollPass};
+use crate::server::{Server, is_made};
 use crate::sockets::OutstationSocket;
+use crate::system::System;
 use dnp_receive::Receiver;
 use gw_ends::{LineCourse, Opened, Sending, open_line};
 use gw_journal::{Cause, Failure};
-use gw_peers::{Plan, shut};
+use gw_peers::{OutstationLink, shut};
 use gw_readers::{
     Calls, Clock, Course, Gate, Line, Pass, Patience, Step, WorkerEnd, outstation_reader,
     outstation_writer, pause,
@@ -44,22 +44,22 @@ impl<'a, 'b, N: LineCourse> Connection<'a, 'b, N> {
     /// The reader, and the end of its connection.
     fn read<L: Course, S: Calls<L>, R: Wait, C: Clock, G: Gate>(
         &self,
-        house: &House<'_, S, R, C, G>,
+        server: &Server<'_, S, R, C, G>,
         pass: Pass<L>,
     ) -> (Pass<L>, WorkerEnd) {
         let mut input = self.socket;
-        let (desk, shared) = (house.desk, house.shared);
+        let (reporter, shared) = (server.reporter, server.shared);
         let (pass, _, end) = outstation_reader(
-            desk.alloc,
-            desk.rt,
+            reporter.alloc,
+            reporter.rt,
             shared,
             pass,
             self.outstation,
-            Receiver::new(desk.alloc, self.own, self.peer),
+            Receiver::new(reporter.alloc, self.own, self.peer),
             &mut input,
             self.line,
-            desk.clock,
-            house.gate,
+            reporter.clock,
+            server.gate,
             self.patience,
         );
         self.ending.reader();
@@ -70,13 +70,19 @@ impl<'a, 'b, N: LineCourse> Connection<'a, 'b, N> {
     /// The writer, and the end of its connection.
     fn write<L: Course, S: Calls<L>, R: Wait + Sleeps, C: Clock, G: Gate>(
         &self,
-        house: &House<'_, S, R, C, G>,
+        server: &Server<'_, S, R, C, G>,
         pass: PollPass<L>,
     ) -> (PollPass<L>, WorkerEnd) {
-        let (desk, shared) = (house.desk, house.shared);
+        let (reporter, shared) = (server.reporter, server.shared);
         let (pass, outstation) = pass.into_parts();
         let (pass, _, end) = outstation_writer(
-            desk.rt, shared, pass, outstation, self.line, desk.clock, house.gate,
+            reporter.rt,
+            shared,
+            pass,
+            outstation,
+            self.line,
+            reporter.clock,
+            server.gate,
         );
         self.end_writer();
         (PollPass::new(pass, outstation), end)
@@ -94,30 +100,30 @@ fn exchange<
     L: Course + Send + Sync,
     N: LineCourse + Send + Sync,
     S: Calls<L> + Sync,
-    R: Host,
+    R: System,
     C: Clock + Sync,
     G: Gate + Sync,
 >(
-    house: &House<'_, S, R, C, G>,
+    server: &Server<'_, S, R, C, G>,
     connection: &Connection<'_, '_, N>,
     passes: OutstationPasses<L>,
 ) -> (OutstationPasses<L>, Cause) {
     let Passes { reader, writer } = passes;
     let ((reader, read), (writer, written)) = thread::scope(
         thread::scope_env(),
-        house.desk.rt,
+        server.reporter.rt,
         move |scope| -> ((Pass<L>, WorkerEnd), (PollPass<L>, WorkerEnd))
             requires { IsSend L.row × IsSync L.row × IsSend N.row × IsSync N.row
                 × IsSync S.row × IsSync R.row × IsSync C.row × IsSync G.row }
         {
-            let writing = scope.spawn(move || connection.write(house, writer));
+            let writing = scope.spawn(move || connection.write(server, writer));
             if writing.is_err() {
                 // No thread can be made: the reader finds the connection shut, and the writer its peer down.
                 connection.end_writer();
             }
-            let read = connection.read(house, reader);
+            let read = connection.read(server, reader);
             match writing {
-                Ok(thread) => (read, thread.join(house.desk.rt)),
+                Ok(thread) => (read, thread.join(server.reporter.rt)),
                 Err(refused) => (read, ((refused.value)().0, WorkerEnd::Memory)),
             }
         },
@@ -130,36 +136,40 @@ fn exchange<
 pub fn serve_outstation<
     L: Course + Send + Sync,
     S: Calls<L> + Sync,
-    R: Host,
+    R: System,
     C: Clock + Sync,
     G: Gate + Sync,
->(house: &House<'_, S, R, C, G>, plan: &Plan, passes: OutstationPasses<L>) -> OutstationPasses<L> {
+>(
+    server: &Server<'_, S, R, C, G>,
+    link: &OutstationLink,
+    passes: OutstationPasses<L>,
+) -> OutstationPasses<L> {
     let mut passes = passes;
     let outstation = passes.writer.outstation();
-    for _ in house.desk.rt.forever() {
-        if house.shared.stopping() {
+    for _ in server.reporter.rt.forever() {
+        if server.shared.stopping() {
             break;
         }
-        match connect(house.desk.rt, plan) {
+        match connect(server.reporter.rt, link) {
             Ok(stream) => {
-                passes = serve_connection(house, outstation, plan, passes, &stream);
+                passes = serve_connection(server, outstation, link, passes, &stream);
             }
-            Err(cause) => house.desk.outstation_unreachable(outstation, cause),
+            Err(cause) => server.reporter.outstation_unreachable(outstation, cause),
         }
-        pause::<L, S, R>(house.desk.rt, house.shared);
+        pause::<L, S, R>(server.reporter.rt, server.shared);
     }
     passes
 }
 
 /// Connects to an outstation: to the first of its addresses that answers.
-fn connect<R: Host>(rt: &R, plan: &Plan) -> Result<TcpStream, Failure> {
-    let addresses = match plan.connect.as_str().to_socket_addrs(rt) {
+fn connect<R: System>(rt: &R, link: &OutstationLink) -> Result<TcpStream, Failure> {
+    let addresses = match link.connect.as_str().to_socket_addrs(rt) {
         Ok(addresses) => addresses,
         Err(error) => return Err(Failure::of_look_up(error.kind())),
     };
     let mut last = Failure::NoSuchHost;
     for address in addresses {
-        match TcpStream::connect_timeout(rt, &address, plan.connecting()) {
+        match TcpStream::connect_timeout(rt, &address, link.connecting()) {
             Ok(stream) => return Ok(stream),
             Err(error) => last = Failure::from(error.kind()),
         }
@@ -171,34 +181,34 @@ fn connect<R: Host>(rt: &R, plan: &Plan) -> Result<TcpStream, Failure> {
 fn serve_connection<
     L: Course + Send + Sync,
     S: Calls<L> + Sync,
-    R: Host,
+    R: System,
     C: Clock + Sync,
     G: Gate + Sync,
 >(
-    house: &House<'_, S, R, C, G>,
+    server: &Server<'_, S, R, C, G>,
     outstation: u8,
-    plan: &Plan,
+    link: &OutstationLink,
     passes: OutstationPasses<L>,
     stream: &TcpStream,
 ) -> OutstationPasses<L> {
     let mut passes = passes;
-    let moment = house.desk.clock.moment();
+    let moment = server.reporter.clock.moment();
     if !is_made(
-        house,
+        server,
         &mut passes.reader,
         Step::OutstationUp { outstation, moment },
     ) {
         shut(stream);
         return passes;
     }
-    house.desk.outstation_connected(outstation);
-    let (passes, met) = serve_stream(house, outstation, plan, passes, stream);
-    let cause = if house.shared.stopping() {
+    server.reporter.outstation_connected(outstation);
+    let (passes, met) = serve_stream(server, outstation, link, passes, stream);
+    let cause = if server.shared.stopping() {
         Cause::GatewayEnds
     } else {
-        plan.in_words(met)
+        link.in_words(met)
     };
-    house.desk.outstation_lost(outstation, cause);
+    server.reporter.outstation_lost(outstation, cause);
     passes
 }
 
@@ -206,19 +216,19 @@ fn serve_connection<
 fn serve_stream<
     L: Course + Send + Sync,
     S: Calls<L> + Sync,
-    R: Host,
+    R: System,
     C: Clock + Sync,
     G: Gate + Sync,
 >(
-    house: &House<'_, S, R, C, G>,
+    server: &Server<'_, S, R, C, G>,
     outstation: u8,
-    plan: &Plan,
+    link: &OutstationLink,
     passes: OutstationPasses<L>,
     stream: &TcpStream,
 ) -> (OutstationPasses<L>, Cause) {
     match open_line() {
         Some(history) => serve_line::<L, Brand, S, R, C, G>(
-            house, outstation, plan, passes, stream, history,
+            server, outstation, link, passes, stream, history,
         ),
         None => (passes, Cause::Memory),
     }
@@ -229,38 +239,38 @@ fn serve_line<
     L: Course + Send + Sync,
     N: LineCourse + Send + Sync,
     S: Calls<L> + Sync,
-    R: Host,
+    R: System,
     C: Clock + Sync,
     G: Gate + Sync,
 >(
-    house: &House<'_, S, R, C, G>,
+    server: &Server<'_, S, R, C, G>,
     outstation: u8,
-    plan: &Plan,
+    link: &OutstationLink,
     passes: OutstationPasses<L>,
     stream: &TcpStream,
     history: Opened<Sending>,
 ) -> (OutstationPasses<L>, Cause)
     requires book { history.seen.book ≡ N.book }
-    requires addresses { (N.own ≡ plan.now.own) × (N.peer ≡ plan.now.peer) }
+    requires addresses { (N.own ≡ link.now.own) × (N.peer ≡ link.now.peer) }
     requires first { N.first ≡ None }
     requires failed { N.failed ≡ false }
 {
     let ending = Ending::new();
-    let socket = OutstationSocket::new(stream, &ending, plan);
-    let line: Line<OutstationSocket<'_>, N> = Line::new(socket, plan.own, plan.peer, history);
+    let socket = OutstationSocket::new(stream, &ending, link);
+    let line: Line<OutstationSocket<'_>, N> = Line::new(socket, link.own, link.peer, history);
     let connection = Connection {
         stream,
         ending: &ending,
         outstation,
-        own: plan.own,
-        peer: plan.peer,
+        own: link.own,
+        peer: link.peer,
         patience: Patience {
-            for_clients: plan.patience_ms(),
-            for_answers: plan.silence_ms(),
-            for_status: plan.response_ms(),
+            for_clients: link.patience_ms(),
+            for_answers: link.silence_ms(),
+            for_status: link.response_ms(),
         },
         socket,
         line: &line,
     };
-    exchange(house, &connection, passes)
+    exchange(server, &connection, passes)
 }

@@ -3,7 +3,7 @@ ghost use Rattle.std.specs.Prelude.{◌≡◌, ◌≤◌, false, None, IfOk, len
 ghost use Rattle.gw_ends.specs.Ends.{IsWithin};
 
 use crate::ending::Ending;
-use gw_peers::Plan;
+use gw_peers::OutstationLink;
 use gw_readers::{Arrival, Incoming, Outgoing, Unwritten};
 use std::io::{self, ErrorKind, Read, Write};
 use std::net::TcpStream;
@@ -53,15 +53,19 @@ impl<'a> ClientSocket<'a> {
 }
 
 impl<'a> OutstationSocket<'a> {
-    /// A connection that was made; the plan says how long the outstation may be silent, and how long a write may take.
+    /// A connection that was made; `link` says how long the outstation may be silent, and how long a write may take.
     /// An option that can't be set leaves it as it is.
-    pub fn new(stream: &'a TcpStream, ending: &'a Ending, plan: &Plan) -> OutstationSocket<'a>
+    pub fn new(
+        stream: &'a TcpStream,
+        ending: &'a Ending,
+        link: &OutstationLink,
+    ) -> OutstationSocket<'a>
         ensures { result.has_failed ≡ false }
     {
         let _ = stream.set_nodelay(true);
-        let _ = stream.set_read_timeout(Some(plan.wait()));
-        let _ = stream.set_write_timeout(Some(plan.response));
-        let waits = plan.waits();
+        let _ = stream.set_read_timeout(Some(link.wait()));
+        let _ = stream.set_write_timeout(Some(link.response));
+        let waits = link.waits();
         OutstationSocket {
             stream,
             ending,

@@ -14,7 +14,7 @@ struct Caller {
     reconnects: Reconnects,
     /// How many connections stand.
     standing: u64,
-    /// The last client whose connection ended: its place, and where it connected from.
+    /// The last client whose connection ended: its slot, and where it connected from.
     last: Option<(u8, SocketAddr)>,
 }
 
@@ -45,7 +45,7 @@ impl Caller {
     }
 }
 
-/// The end of a client's connection, as it is told: the place, and where the client connected from.
+/// The end of a client's connection, as it is told: the slot, and where the client connected from.
 #[derive(Clone, Copy)]
 pub struct CallerLoss {
     pub client: u8,
@@ -84,7 +84,7 @@ impl Callers {
         self.caller(address).reconnects.stands(wall, since)
     }
 
-    /// A connection of the client at a place has ended, whose beginning was told or wasn't. What is told of that at once,
+    /// A connection of the client at a slot has ended, whose beginning was told or wasn't. What is told of that at once,
     /// if something is.
     pub fn end(
         &mut self,

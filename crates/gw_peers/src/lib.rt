@@ -1,27 +1,27 @@
-//! The gateway's peers: the ways to the outstations; how clients hold their places, and which gives way if all are taken;
-//! what is known of each, and the desk where an operator is told of it.
+//! The gateway's peers: the links to the outstations; the connections of clients, and which gives way if all slots are
+//! taken; what is known of each, and the reporter by which an operator is told of it.
 #![tactic(auto)]
 
 mod address_rows;
-mod board;
 mod callers;
+mod client_connection;
 mod connections;
-mod desk;
-mod hold;
+mod last_tick;
 mod looks;
-mod plan;
+mod outstation_link;
+mod peers;
 mod points;
-mod pulse;
 mod reasons;
+mod reporter;
 mod sequence;
 mod tcp;
 
 pub use address_rows::AddressRows;
-pub use board::{Board, ClientCard, OutstationCard};
 pub use callers::Callers;
-pub use desk::Desk;
-pub use hold::Hold;
-pub use plan::{Plan, plans_of};
+pub use client_connection::ClientConnection;
+pub use outstation_link::{OutstationLink, links_of};
+pub use peers::{ClientRecord, OutstationRecord, Peers};
 pub use reasons::Reasons;
-pub use sequence::{Sequence, Source};
+pub use reporter::Reporter;
+pub use sequence::{Sequence, StepSource};
 pub use tcp::shut;

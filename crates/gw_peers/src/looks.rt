@@ -1,8 +1,8 @@
 //! What is told of peers once in a while.
 
-use crate::board::ClientCard;
 use crate::callers::CallerLoss;
-use crate::desk::Desk;
+use crate::peers::ClientRecord;
+use crate::reporter::Reporter;
 use gw_clock::Clock;
 use gw_journal::{DueNotes, JournalEvent, Refused};
 use std::sync::Wait;
@@ -10,11 +10,11 @@ use std::sync::Wait;
 /// A time at which whatever waits for its time is due.
 pub(crate) const ANY_TIME: u64 = u64::MAX;
 
-impl<'a, R: Wait, C: Clock> Desk<'a, R, C> {
+impl<'a, R: Wait, C: Clock> Reporter<'a, R, C> {
     /// Tells what is due of the outstations.
     pub fn look_at_outstations(&self, wall: u64) {
-        for (outstation, card) in (0u8..).zip(self.board.outstations()) {
-            self.tell_of_outstation(outstation, card.due(self.rt, wall));
+        for (outstation, record) in (0u8..).zip(self.peers.outstations()) {
+            self.tell_of_outstation(outstation, record.due(self.rt, wall));
         }
     }
 
@@ -58,9 +58,9 @@ impl<'a, R: Wait, C: Clock> Desk<'a, R, C> {
 
     /// Tells which connections of clients have ended, where that wasn't told and is due.
     pub fn look_at_callers(&self, wall: u64) {
-        let count = self.board.callers.lock(self.rt).len();
+        let count = self.peers.callers.lock(self.rt).len();
         for position in 0..count {
-            let due = self.board.callers.lock(self.rt).due(wall, position);
+            let due = self.peers.callers.lock(self.rt).due(wall, position);
             if let Some(
                 CallerLoss {
                     client,
@@ -78,27 +78,27 @@ impl<'a, R: Wait, C: Clock> Desk<'a, R, C> {
         }
     }
 
-    /// Tells what is due of the clients at their places: that they stand, what they sent of unknown types, and how many
-    /// observations were dropped for them. So many were dropped at each place by now.
+    /// Tells what is due of the clients at their slots: that they stand, what they sent of unknown types, and how many
+    /// observations were dropped for them. So many were dropped at each slot by now.
     pub fn look_at_clients(&self, dropped: &[u64], wall: u64) {
-        for (client, card) in (0u8..).zip(self.board.clients()) {
-            self.tell_standing(card, client, wall);
-            self.tell_unknown(card, client, wall);
+        for (client, record) in (0u8..).zip(self.peers.clients()) {
+            self.tell_standing(record, client, wall);
+            self.tell_unknown(record, client, wall);
             if let Some(total) = dropped.get(usize::from(client)) {
-                self.tell_dropped(card, client, *total, wall);
-                card.look(self.rt, *total);
+                self.tell_dropped(record, client, *total, wall);
+                record.look(self.rt, *total);
             }
         }
     }
 
     /// Tells that a client is connected, and whether it transfers data, where that wasn't told and is due.
-    fn tell_standing(&self, card: &ClientCard, client: u8, wall: u64) {
+    fn tell_standing(&self, record: &ClientRecord, client: u8, wall: u64) {
         // Its end is told behind that, since the lock is taken for that too.
-        let mut figures = card.figures.lock(self.rt);
+        let mut figures = record.figures.lock(self.rt);
         let Some((address, since)) = figures.untold() else {
             return;
         };
-        let mut callers = self.board.callers.lock(self.rt);
+        let mut callers = self.peers.callers.lock(self.rt);
         if !callers.stands(wall, address, since) {
             return;
         }
@@ -110,8 +110,8 @@ impl<'a, R: Wait, C: Clock> Desk<'a, R, C> {
     }
 
     /// Tells what a client sent of unknown types, where that is due.
-    fn tell_unknown(&self, card: &ClientCard, client: u8, wall: u64) {
-        if let Some((address, asdus)) = card.unknown_due(self.rt, wall) {
+    fn tell_unknown(&self, record: &ClientRecord, client: u8, wall: u64) {
+        if let Some((address, asdus)) = record.unknown_due(self.rt, wall) {
             self.tell(JournalEvent::UnknownTypes {
                 client,
                 address,
@@ -120,9 +120,9 @@ impl<'a, R: Wait, C: Clock> Desk<'a, R, C> {
         }
     }
 
-    /// Tells how many observations were dropped for a client, where that is due. So many were dropped at its place by now.
-    pub(crate) fn tell_dropped(&self, card: &ClientCard, client: u8, total: u64, wall: u64) {
-        if let Some((address, count)) = card.dropped(self.rt, wall, total) {
+    /// Tells how many observations were dropped for a client, where that is due. So many were dropped at its slot by now.
+    pub(crate) fn tell_dropped(&self, record: &ClientRecord, client: u8, total: u64, wall: u64) {
+        if let Some((address, count)) = record.dropped(self.rt, wall, total) {
             self.tell(JournalEvent::NewsDropped {
                 client,
                 address,

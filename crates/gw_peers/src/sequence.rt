@@ -7,7 +7,7 @@ use std::sync::{Condvar, Mutex, Wait};
 /// From where a step comes of which something is told that others wait for. Of one source a step follows the other, but for
 /// losses, which two workers may tell of.
 #[derive(Clone, Copy)]
-pub enum Source {
+pub enum StepSource {
     /// APDUs of a client.
     Client(u8),
     /// Fragments of an outstation.
@@ -110,14 +110,14 @@ impl Sequence {
     }
 
     /// A step is about to be made.
-    pub fn begin<R: Wait>(&self, rt: &R, source: Source) {
+    pub fn begin<R: Wait>(&self, rt: &R, source: StepSource) {
         if let Some(lane) = self.lane(source) {
             lane.begin(rt);
         }
     }
 
     /// It was made, and told of.
-    pub fn end<R: Wait>(&self, rt: &R, source: Source) {
+    pub fn end<R: Wait>(&self, rt: &R, source: StepSource) {
         if let Some(lane) = self.lane(source) {
             lane.end(rt);
         }
@@ -131,12 +131,12 @@ impl Sequence {
         settle_all(rt, &self.losses);
     }
 
-    fn lane(&self, source: Source) -> Option<&Lane> {
+    fn lane(&self, source: StepSource) -> Option<&Lane> {
         match source {
-            Source::Client(client) => self.clients.get(usize::from(client)),
-            Source::Outstation(outstation) => self.outstations.get(usize::from(outstation)),
-            Source::Loss(outstation) => self.losses.get(usize::from(outstation)),
-            Source::Clock => Some(&self.clock),
+            StepSource::Client(client) => self.clients.get(usize::from(client)),
+            StepSource::Outstation(outstation) => self.outstations.get(usize::from(outstation)),
+            StepSource::Loss(outstation) => self.losses.get(usize::from(outstation)),
+            StepSource::Clock => Some(&self.clock),
         }
     }
 }

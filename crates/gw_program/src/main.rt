@@ -12,7 +12,7 @@ use gw_command_line::{Asked, LineFault, VERSION, command_line as read_words};
 use gw_commands::{
     CheckForm, USAGE, check, commit_of, pcap, points, refuse_for, replay, translate,
 };
-use gw_server::Host;
+use gw_server::System;
 use std::net::{Net, TcpListener, TcpStream};
 use std::process::ExitCode;
 use std::rt::Clock;
@@ -28,24 +28,24 @@ fn main(rt: HostRuntime) -> io::Result<ExitCode> {
     Ok(ExitCode::from(status))
 }
 
-/// Does what the words of the command line ask for; gives the status. `host` is the same system, as what serves on it
-/// sees it: `main` alone has its threads and sockets. (Its bounds are those of `Host`, spelled out for `main`'s proof.)
+/// Does what the words of the command line ask for; gives the status. `system` is that of `rt`, as what serves on it sees
+/// it: `main` alone has its threads and sockets. (Its bounds are those of `System`, spelled out for `main`'s proof.)
 fn program<
-    H: Net<Listener = TcpListener, Stream = TcpStream> + Threads + Wait + Clock + Eprint + Sync,
->(rt: &HostRuntime, host: &H) -> io::Result<u8> {
+    R: Net<Listener = TcpListener, Stream = TcpStream> + Threads + Wait + Clock + Eprint + Sync,
+>(rt: &HostRuntime, system: &R) -> io::Result<u8> {
     let arguments: Vec<String> = env::args(rt)?.collect(rt.alloc())?;
     let mut words = Vec::new(rt.alloc());
     for argument in &arguments {
         words.push(argument.as_str())?;
     }
     match read_words(rt.alloc(), words.as_slice()) {
-        Ok(asked) => answer(rt, host, asked),
+        Ok(asked) => answer(rt, system, asked),
         Err(fault) => tell(rt, &fault),
     }
 }
 
 /// Does what a command line asks for; gives the status.
-fn answer<H: Host>(rt: &HostRuntime, host: &H, asked: Asked) -> io::Result<u8> {
+fn answer<R: System>(rt: &HostRuntime, system: &R, asked: Asked) -> io::Result<u8> {
     match asked {
         Asked::Check {
             file,
@@ -66,7 +66,7 @@ fn answer<H: Host>(rt: &HostRuntime, host: &H, asked: Asked) -> io::Result<u8> {
             file,
             sessions,
             options,
-        } => run(rt, host, file, sessions, &options),
+        } => run(rt, system, file, sessions, &options),
     }
 }
 

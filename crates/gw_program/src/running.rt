@@ -10,7 +10,7 @@ use gw_event_file::{EventFile, EventWriter};
 use gw_map::Settings;
 use gw_model::Memory;
 use gw_server::{
-    Clock, Closed, Gate, Host, Journal, OpenGate, Options, SystemClock, journal_of, serve_as,
+    Clock, Closed, Gate, Journal, OpenGate, Options, System, SystemClock, journal_of, serve_as,
 };
 use gw_startup::{
     Entrances, PieceFiles, Source, Unserved, check_followers, check_records, folder_files,
@@ -23,14 +23,14 @@ use std::{io, thread};
 
 /// Serves control centres and outstations as a settings file says, until so many connections of control centres have
 /// ended, or standard input has, or for ever; gives the status.
-pub fn run<H: Host>(
+pub fn run<R: System>(
     rt: &HostRuntime,
-    host: &H,
+    system: &R,
     file: &str,
     sessions: Option<u32>,
     asked: &RunOptions<'_>,
 ) -> io::Result<u8> {
-    match serve_file(rt, host, file, sessions, asked) {
+    match serve_file(rt, system, file, sessions, asked) {
         Ok(closed) => {
             println!(rt; "steps {}", closed.total)?;
             Ok(0)
@@ -40,9 +40,9 @@ pub fn run<H: Host>(
 }
 
 /// Reads the settings file, listens, and serves.
-fn serve_file<'a, H: Host>(
+fn serve_file<'a, R: System>(
     rt: &'a HostRuntime,
-    host: &H,
+    system: &R,
     file: &'a str,
     sessions: Option<u32>,
     asked: &RunOptions<'a>,
@@ -51,15 +51,15 @@ fn serve_file<'a, H: Host>(
     check_followers(file, asked)?;
     let (settings, source) = read_source(rt, file)?;
     let Named { names, .. } = Named::read(rt, &settings, asked.names)?;
-    let clock = SystemClock::new(host);
+    let clock = SystemClock::new(system);
     let shown = Shown::of(rt, asked.status.is_some());
     let followed = Followed::of(rt.alloc(), &settings, &names, asked)?;
     let events = event_file(rt, asked).map_err(Unserved::Hindered)?;
-    let (entrances, journal) = begin(rt, host, &clock, &settings, source, names, asked)?;
+    let (entrances, journal) = begin(rt, system, &clock, &settings, source, names, asked)?;
     let values = followed.values(rt.alloc())?;
-    let site = Site {
+    let gateway = GatewayRun {
         alloc: rt.alloc(),
-        host,
+        system,
         listener: &entrances.listener,
         options: Options {
             identity: shown.identity(asked.site, file, source.digest),
@@ -77,31 +77,31 @@ fn serve_file<'a, H: Host>(
         clock: &clock,
     };
     match events {
-        Some(events) => site.serve_writing(rt, settings, source, asked, &followed, events),
-        None => site.serve_asked(rt, settings, source, asked),
+        Some(events) => gateway.serve_writing(rt, settings, source, asked, &followed, events),
+        None => gateway.serve_asked(rt, settings, source, asked),
     }
 }
 
 /// Listens, and begins the journal.
-fn begin<'a, H: Host>(
+fn begin<'a, R: System>(
     rt: &HostRuntime,
-    host: &H,
-    clock: &SystemClock<'_, H>,
+    system: &R,
+    clock: &SystemClock<'_, R>,
     settings: &Settings,
     source: Source<'_>,
     names: Names,
     asked: &RunOptions<'a>,
 ) -> Result<(Entrances, Journal), Unserved<'a>> {
-    let entrances = Entrances::open(rt.alloc(), host, settings, asked)?;
-    let journal = begun_journal(rt, host, clock, settings, source, names, asked)?;
+    let entrances = Entrances::open(rt.alloc(), system, settings, asked)?;
+    let journal = begun_journal(rt, system, clock, settings, source, names, asked)?;
     Ok((entrances, journal))
 }
 
 /// The journal, which is told that the gateway starts.
-fn begun_journal<'a, H: Host>(
+fn begun_journal<'a, R: System>(
     rt: &HostRuntime,
-    host: &H,
-    clock: &SystemClock<'_, H>,
+    system: &R,
+    clock: &SystemClock<'_, R>,
     settings: &Settings,
     source: Source<'_>,
     names: Names,
@@ -111,7 +111,7 @@ fn begun_journal<'a, H: Host>(
     let wall = clock.wall();
     tell_start(
         rt.alloc(),
-        host,
+        system,
         &journal,
         wall,
         settings,
@@ -123,16 +123,16 @@ fn begun_journal<'a, H: Host>(
 
 /// What is served, and what is told of it.
 #[derive(Clone, Copy)]
-struct Site<'a, H> {
+struct GatewayRun<'a, R> {
     alloc: Global,
-    host: &'a H,
+    system: &'a R,
     listener: &'a TcpListener,
     options: Options<'a>,
     journal: &'a Journal,
-    clock: &'a SystemClock<'a, H>,
+    clock: &'a SystemClock<'a, R>,
 }
 
-impl<'a, H: Host> Site<'a, H> {
+impl<'a, R: System> GatewayRun<'a, R> {
     /// Serves, and takes each step down where that is asked for.
     fn serve_asked<'b>(
         &self,
@@ -170,7 +170,7 @@ impl<'a, H: Host> Site<'a, H> {
         };
         let writer = EventWriter::new(
             self.alloc,
-            self.host,
+            self.system,
             self.clock,
             &followed.points,
             queue,
@@ -178,16 +178,16 @@ impl<'a, H: Host> Site<'a, H> {
             file,
         );
         let (_, closed) = thread::join(
-            self.host,
+            self.system,
             move || writer.write_all(),
             move || {
                 let closed = self.serve_asked(rt, settings, source, asked);
-                queue.close(self.host);
+                queue.close(self.system);
                 closed
             },
         );
-        self.journal.close(self.host);
-        self.journal.write_on(self.host);
+        self.journal.close(self.system);
+        self.journal.write_on(self.system);
         closed
     }
 
@@ -195,7 +195,7 @@ impl<'a, H: Host> Site<'a, H> {
     fn serve<G: Gate + Sync>(&self, settings: Settings, gate: &G) -> Result<Closed, Memory> {
         serve_as(
             self.alloc,
-            self.host,
+            self.system,
             settings,
             self.listener,
             self.options,
@@ -216,24 +216,24 @@ impl<'a, H: Host> Site<'a, H> {
         let capture = Capture::new(self.alloc, megabytes)?;
         let kept = &capture;
         let (_, closed) = thread::join(
-            self.host,
+            self.system,
             move || self.write_record(kept, files, pieces),
             move || self.serve_into(kept, settings),
         );
         // The journal's thread has ended before the capture did.
-        self.journal.close(self.host);
-        self.journal.write_on(self.host);
+        self.journal.close(self.system);
+        self.journal.write_on(self.system);
         closed
     }
 
     /// Serves, and hands each step to a capture, which is closed behind the last one.
     fn serve_into(&self, capture: &Capture, settings: Settings) -> Result<Closed, Memory> {
         let gate = Recording {
-            rt: self.host,
+            rt: self.system,
             capture,
         };
         let closed = self.serve(settings, &gate);
-        capture.close(self.host);
+        capture.close(self.system);
         closed
     }
 
@@ -245,7 +245,7 @@ impl<'a, H: Host> Site<'a, H> {
         pieces: P,
     ) {
         let PieceFiles { steps, answers } = files;
-        let ended = capture.write_pieces(self.host, steps, answers, pieces);
-        tell_end(self.host, self.journal, self.clock.wall(), ended);
+        let ended = capture.write_pieces(self.system, steps, answers, pieces);
+        tell_end(self.system, self.journal, self.clock.wall(), ended);
     }
 }

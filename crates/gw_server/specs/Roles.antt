@@ -1,5 +1,5 @@
 -- Who is who among the actors of a server: the outstations' readers and writers, each reader with its writer behind it,
--- then those of the eight places for clients, likewise, and the clock.
+-- then those of the eight slots for clients, likewise, and the clock.
 use Rattle.std.specs.Prelude.{◌≡◌, ℕ, ◌+◌, ◌*◌, List, length, map, Some}
 use Rattle.std.specs.List.{range_with_len}
 use Rattle.gw_shared.specs.Roles.{Roles}
@@ -9,7 +9,7 @@ use Rattle.gw_shared.specs.Turn.{Pass, unused}
 abbrev pub actors_of : ℕ → ℕ
 actors_of outstations = 2 * (outstations + 8) + 1
 
--- a client is pumped by the writer of its place, and an outstation polled by its own, alone
+-- a client is pumped by the writer of its slot, and an outstation polled by its own, alone
 abbrev pub roles_of : ℕ → Roles
 roles_of outstations = record {
   pumper = λ (client : ℕ). Some (2 * (outstations + client) + 1);

@@ -2,14 +2,15 @@
 //! core, each in a thread of its own, until it is to end.
 #![tactic(auto)]
 
-mod duty;
 mod options;
 mod serving;
+mod thread_role;
 
 pub use gw_admission::Network;
 pub use gw_clock::{Clock, SystemClock};
 pub use gw_connections::{
-    Closed, Effects, Gate, Host, Observer, OpenGate, Place, Pumps, Reply, Step, StepFault, StepKind,
+    Closed, Effects, Gate, Observer, OpenGate, Place, Pumps, Reply, Step, StepFault, StepKind,
+    System,
 };
 pub use gw_journal::{Journal, JournalEvent};
 pub use gw_watch::{EventQueue, Identity, ProcessFiles, Values};

@@ -1,8 +1,8 @@
 //! What is said of a run beside its settings.
 
-use gw_admission::{Door, Network};
-use gw_peers::Plan;
-use gw_watch::{EventQueue, Identity, ProcessFiles, Site, Values};
+use gw_admission::{Acceptor, Network};
+use gw_peers::OutstationLink;
+use gw_watch::{EventQueue, Identity, ProcessFiles, StatusSource, Values};
 use std::io::Stdin;
 use std::net::TcpListener;
 
@@ -32,9 +32,9 @@ pub struct Options<'a> {
 }
 
 impl<'a> Options<'a> {
-    /// Where clients come in who connect to a listener.
-    pub fn door(&self, listener: &'a TcpListener) -> Door<'a> {
-        Door {
+    /// What accepts the clients that connect to a listener.
+    pub fn acceptor(&self, listener: &'a TcpListener) -> Acceptor<'a> {
+        Acceptor {
             listener,
             sessions: self.sessions,
             allow: self.allow,
@@ -42,11 +42,16 @@ impl<'a> Options<'a> {
         }
     }
 
-    /// What is served to those who connect to a listener, on these ways to the outstations, from a time on.
-    pub fn site(&self, listener: &'a TcpListener, plans: &'a [Plan], started: u64) -> Site<'a> {
-        Site {
-            door: self.door(listener),
-            plans,
+    /// What is served with a listener for clients and these links to the outstations, from a time on.
+    pub fn status_source(
+        &self,
+        listener: &'a TcpListener,
+        links: &'a [OutstationLink],
+        started: u64,
+    ) -> StatusSource<'a> {
+        StatusSource {
+            acceptor: self.acceptor(listener),
+            links,
             identity: Identity {
                 listen: listener.local_addr().ok(),
                 ..self.identity

@@ -5,19 +5,19 @@ ghost use Rattle.gw_running.specs.Kept.{IsKeptRun};
 ghost use Rattle.gw_shared.specs.Reached.{IsFirst};
 ghost use Rattle.gw_server.specs.Roles.{actors_of, roles_of, AreFirst};
 
-use crate::duty::{Duty, Returned, add_duties};
 use crate::options::Options;
-use gw_admission::{Lobby, accept};
+use crate::thread_role::{ReturnedPasses, ThreadRole, add_roles};
+use gw_admission::{Slots, accept};
 use gw_clock::Clock;
-use gw_connections::{Calls, Closed, Course, Gate, Host, House, Pass, Shared};
+use gw_connections::{Calls, Closed, Course, Gate, Pass, Server, Shared, System};
 use gw_hub::Hub;
 use gw_journal::Journal;
 use gw_map::Settings;
 use gw_model::{CLIENTS, Memory};
-use gw_peers::{Board, Desk, Plan, plans_of};
+use gw_peers::{OutstationLink, Peers, Reporter, links_of};
 use gw_running::close;
 use gw_shared::{Made, Opened, open_course};
-use gw_watch::{Identity, Site, Watched};
+use gw_watch::{Identity, StatusSource, Watched};
 use std::alloc::Global;
 use std::marker::Brand;
 use std::net::TcpListener;
@@ -41,7 +41,7 @@ const NOBODY: Identity<'static> = Identity {
 /// # Errors
 ///
 /// `Memory` where memory, or a thread, is refused before the first connection is accepted.
-pub fn serve<R: Host, C: Clock + Sync, G: Gate + Sync>(
+pub fn serve<R: System, C: Clock + Sync, G: Gate + Sync>(
     alloc: Global,
     rt: &R,
     settings: Settings,
@@ -88,7 +88,7 @@ pub fn journal_of(
 /// # Errors
 ///
 /// `Memory` where memory, or a thread, is refused before the first connection is accepted.
-pub fn serve_as<R: Host, C: Clock + Sync, G: Gate + Sync>(
+pub fn serve_as<R: System, C: Clock + Sync, G: Gate + Sync>(
     alloc: Global,
     rt: &R,
     settings: Settings,
@@ -100,39 +100,39 @@ pub fn serve_as<R: Host, C: Clock + Sync, G: Gate + Sync>(
 ) -> Result<Closed, Memory>
     ensures { IfOk result (λ closed. IsKeptRun settings closed.total) }
 {
-    let (plans, board) = plans_and_board(
+    let (links, peers) = links_and_peers(
         alloc,
         &settings,
         options.status.is_some(),
         clock.moment(),
     )?;
-    let site = options.site(listener, &plans, clock.wall());
-    let desk = Desk {
+    let source = options.status_source(listener, &links, clock.wall());
+    let reporter = Reporter {
         alloc,
         rt,
         clock,
-        board: &board,
+        peers: &peers,
         journal,
     };
-    let opening = Opening::of(alloc, settings, site.outstations())?;
+    let opening = Opening::of(alloc, settings, source.outstations())?;
     let blank = Blank::new(opening.actors as u64);
     let Some(history) = open_course() else {
         return Err(Memory);
     };
-    serve_with::<Brand, R, C, G>(&desk, &site, blank, history, opening, gate)
+    serve_with::<Brand, R, C, G>(&reporter, &source, blank, history, opening, gate)
 }
 
-/// The ways to the outstations, and a board with a card for each of them and for each client, at a moment; with the points
-/// where it is shown.
-fn plans_and_board(
+/// The links to the outstations, and what is known of each of them and of each client, at a moment; with the points where
+/// it is shown.
+fn links_and_peers(
     alloc: Global,
     settings: &Settings,
     is_shown: bool,
     moment: u64,
-) -> Result<(Vec<Plan>, Board), Memory> {
-    let plans = plans_of(alloc, settings)?;
-    let board = Board::new(alloc, settings, &plans, CLIENTS, is_shown, moment)?;
-    Ok((plans, board))
+) -> Result<(Vec<OutstationLink>, Peers), Memory> {
+    let links = links_of(alloc, settings)?;
+    let peers = Peers::new(alloc, settings, &links, CLIENTS, is_shown, moment)?;
+    Ok((links, peers))
 }
 
 /// What a shared core is made of.
@@ -164,9 +164,9 @@ impl Opening {
 }
 
 /// The same on a ledger of its own.
-fn serve_with<L: Course + Send + Sync, R: Host, C: Clock + Sync, G: Gate + Sync>(
-    desk: &Desk<'_, R, C>,
-    site: &Site<'_>,
+fn serve_with<L: Course + Send + Sync, R: System, C: Clock + Sync, G: Gate + Sync>(
+    reporter: &Reporter<'_, R, C>,
+    source: &StatusSource<'_>,
     blank: Blank,
     history: Opened<Made>,
     opening: Opening,
@@ -188,21 +188,26 @@ fn serve_with<L: Course + Send + Sync, R: Host, C: Clock + Sync, G: Gate + Sync>
         capacity,
     } = opening;
     let (shared, passes) = Shared::<L, Hub>::new(
-        desk.alloc, blank, history, hub, actors, capacity,
+        reporter.alloc,
+        blank,
+        history,
+        hub,
+        actors,
+        capacity,
     )?;
-    let watched = Watched { desk, gate };
-    let house = House {
-        desk,
+    let watched = Watched { reporter, gate };
+    let server = Server {
+        reporter,
         shared: &shared,
         gate: &watched,
     };
-    serve_in(&house, site, outstations, passes)
+    serve_in(&server, source, outstations, passes)
 }
 
 /// Serves with these passes, which come back and are counted together.
-fn serve_in<L: Course + Send + Sync, R: Host, C: Clock + Sync, G: Gate + Sync>(
-    house: &House<'_, Shared<L, Hub>, R, C, G>,
-    site: &Site<'_>,
+fn serve_in<L: Course + Send + Sync, R: System, C: Clock + Sync, G: Gate + Sync>(
+    server: &Server<'_, Shared<L, Hub>, R, C, G>,
+    source: &StatusSource<'_>,
     outstations: u8,
     passes: Vec<Pass<L>>,
 ) -> Result<Closed, Memory>
@@ -212,73 +217,73 @@ fn serve_in<L: Course + Send + Sync, R: Host, C: Clock + Sync, G: Gate + Sync>(
     ensures { IfOk result (λ closed. IsKeptRun L.setup closed.total) }
 {
     let mut passes = passes;
-    let mut duties = Vec::new(house.desk.alloc);
-    add_duties(&mut duties, &mut passes, outstations, site)?;
-    perform_all(house, site, &mut duties, &mut passes)?;
-    match close(house.shared, house.desk.rt, passes) {
+    let mut roles = Vec::new(server.reporter.alloc);
+    add_roles(&mut roles, &mut passes, outstations, source)?;
+    perform_all(server, source, &mut roles, &mut passes)?;
+    match close(server.shared, server.reporter.rt, passes) {
         Ok(closed) => Ok(closed),
         Err(_) => Err(Memory),
     }
 }
 
-/// Runs a thread for each duty, the last one first, while clients are accepted; the passes come back.
+/// Runs a thread for each role, the last one first, while clients are accepted; the passes come back.
 fn perform_all<
     L: Course + Send + Sync,
     S: Calls<L> + Sync,
-    R: Host,
+    R: System,
     C: Clock + Sync,
     G: Gate + Sync,
 >(
-    house: &House<'_, S, R, C, G>,
-    site: &Site<'_>,
-    duties: &mut Vec<Duty<L>>,
+    server: &Server<'_, S, R, C, G>,
+    source: &StatusSource<'_>,
+    roles: &mut Vec<ThreadRole<L>>,
     passes: &mut Vec<Pass<L>>,
 ) -> Result<(), Memory> {
-    let lobby = Lobby::new(house.desk.alloc, CLIENTS)?;
-    let mut threads = Vec::with_capacity(house.desk.alloc, duties.len())?;
+    let slots = Slots::new(server.reporter.alloc, CLIENTS)?;
+    let mut threads = Vec::with_capacity(server.reporter.alloc, roles.len())?;
     let is_complete = thread::scope(
         thread::scope_env(),
-        house.desk.rt,
+        server.reporter.rt,
         |scope| -> bool
             requires { IsSend L.row × IsSync L.row × IsSync S.row × IsSync R.row × IsSync C.row × IsSync G.row }
         {
-            let is_complete = start_all(scope, house, &lobby, site, duties, &mut threads);
+            let is_complete = start_all(scope, server, &slots, source, roles, &mut threads);
             if is_complete {
-                accept(house.desk, &lobby, &site.door);
+                accept(server.reporter, &slots, &source.acceptor);
             } else {
-                house.shared.stop();
-                house.desk.journal.close(house.desk.rt);
+                server.shared.stop();
+                server.reporter.journal.close(server.reporter.rt);
             }
-            lobby.close(house.desk.rt);
-            end_all(house, site, &mut threads, passes);
+            slots.close(server.reporter.rt);
+            end_all(server, source, &mut threads, passes);
             is_complete
         },
     );
     if is_complete { Ok(()) } else { Err(Memory) }
 }
 
-/// Starts a thread for each duty, the last one first, until one can't be; whether all were.
+/// Starts a thread for each role, the last one first, until one can't be; whether all were.
 fn start_all<
     's,
     E,
     L: Course + Send + Sync + 's,
     S: Calls<L> + Sync,
-    R: Host,
+    R: System,
     C: Clock + Sync,
     G: Gate + Sync,
 >(
     scope: &Scope<'s, E>,
-    house: &'s House<'_, S, R, C, G>,
-    lobby: &'s Lobby,
-    site: &'s Site<'_>,
-    duties: &mut Vec<Duty<L>>,
-    threads: &mut Vec<JoinHandle<Returned<L>>>,
+    server: &'s Server<'_, S, R, C, G>,
+    slots: &'s Slots,
+    source: &'s StatusSource<'_>,
+    roles: &mut Vec<ThreadRole<L>>,
+    threads: &mut Vec<JoinHandle<ReturnedPasses<L>>>,
 ) -> bool {
-    for _ in 0..duties.len() {
-        let Some(duty) = duties.pop() else {
+    for _ in 0..roles.len() {
+        let Some(role) = roles.pop() else {
             break;
         };
-        match scope.spawn(move || duty.perform(house, lobby, site)) {
+        match scope.spawn(move || role.perform(server, slots, source)) {
             Ok(thread) => {
                 let _ = threads.push(thread);
             }
@@ -288,33 +293,33 @@ fn start_all<
     true
 }
 
-/// Lets the threads end once no further client is accepted: those of the places, then the others, and behind what still
+/// Lets the threads end once no further client is accepted: those of the slots, then the others, and behind what still
 /// waited to be told the journal's. The passes come back. The thread that reads standard input was started last, behind
-/// those of the places, and the journal's first.
-fn end_all<L: Course, S: Calls<L>, R: Host, C: Clock, G>(
-    house: &House<'_, S, R, C, G>,
-    site: &Site<'_>,
-    threads: &mut Vec<JoinHandle<Returned<L>>>,
+/// those of the slots, and the journal's first.
+fn end_all<L: Course, S: Calls<L>, R: System, C: Clock, G>(
+    server: &Server<'_, S, R, C, G>,
+    source: &StatusSource<'_>,
+    threads: &mut Vec<JoinHandle<ReturnedPasses<L>>>,
     passes: &mut Vec<Pass<L>>,
 ) {
-    let (desk, shared) = (house.desk, house.shared);
-    if site.door.until_eof.is_some() {
-        join_last(desk.rt, threads, 1, passes);
+    let (reporter, shared) = (server.reporter, server.shared);
+    if source.acceptor.until_eof.is_some() {
+        join_last(reporter.rt, threads, 1, passes);
         shared.stop();
-        desk.board.dismiss_all(desk.rt);
+        reporter.peers.dismiss_all(reporter.rt);
     }
-    join_last(desk.rt, threads, usize::from(CLIENTS), passes);
+    join_last(reporter.rt, threads, usize::from(CLIENTS), passes);
     shared.stop();
     let others = threads.len().saturating_sub(1);
-    join_last(desk.rt, threads, others, passes);
-    desk.close();
-    join_last(desk.rt, threads, 1, passes);
+    join_last(reporter.rt, threads, others, passes);
+    reporter.close();
+    join_last(reporter.rt, threads, 1, passes);
 }
 
 /// Waits for the ends of those threads that were started last, so many of them; their passes come back.
 fn join_last<L: Course, R: Threads>(
     rt: &R,
-    threads: &mut Vec<JoinHandle<Returned<L>>>,
+    threads: &mut Vec<JoinHandle<ReturnedPasses<L>>>,
     count: usize,
     passes: &mut Vec<Pass<L>>,
 ) {

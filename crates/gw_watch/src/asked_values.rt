@@ -1,10 +1,10 @@
 //! Answers to requests for the values of points.
 
-use crate::site::Site;
+use crate::status_source::StatusSource;
 use crate::values::{Range, Values};
 use gw_http::{HttpRequest, Query, RequestFault, Resource, answer, refuse};
 use gw_model::Memory;
-use gw_peers::Desk;
+use gw_peers::Reporter;
 use gw_threads::Clock;
 use gw_values::{Choice, FIRST_ROWS, Form, POLICY, PointsPage};
 use std::alloc::Global;
@@ -62,28 +62,32 @@ impl AskedValues {
 }
 
 /// Whether a request is for values that are shown.
-pub(crate) fn is_of_values(request: &HttpRequest, site: &Site<'_>) -> bool {
+pub(crate) fn is_of_values(request: &HttpRequest, source: &StatusSource<'_>) -> bool {
     match request.asked {
-        Ok(Resource::Points | Resource::PointsCsv | Resource::PointsJson) => site.values.is_some(),
+        Ok(Resource::Points | Resource::PointsCsv | Resource::PointsJson) => {
+            source.values.is_some()
+        }
         _ => false,
     }
 }
 
 /// The answer to a request for values.
 pub(crate) fn answer_values<R: Wait, C: Clock>(
-    desk: &Desk<'_, R, C>,
-    site: &Site<'_>,
+    reporter: &Reporter<'_, R, C>,
+    source: &StatusSource<'_>,
     request: &HttpRequest,
     query: &Query,
 ) -> Result<String, Memory> {
     let asked = match request.asked {
         Ok(resource) => AskedValues::of(resource, query),
-        Err(refusal) => return refuse(desk.alloc, refusal, request.is_head),
+        Err(refusal) => return refuse(reporter.alloc, refusal, request.is_head),
     };
-    match (site.values, asked) {
-        (Some(values), Some(Ok(asked))) => answer_with(desk, site, values, asked, request.is_head),
-        (Some(_), Some(Err(refusal))) => refuse(desk.alloc, refusal, request.is_head),
-        _ => refuse(desk.alloc, RequestFault::NotFound, request.is_head),
+    match (source.values, asked) {
+        (Some(values), Some(Ok(asked))) => {
+            answer_with(reporter, source, values, asked, request.is_head)
+        }
+        (Some(_), Some(Err(refusal))) => refuse(reporter.alloc, refusal, request.is_head),
+        _ => refuse(reporter.alloc, RequestFault::NotFound, request.is_head),
     }
 }
 
@@ -94,8 +98,8 @@ pub(crate) fn refuse_values(alloc: Global, is_head: bool) -> Result<String, Memo
 
 /// The answer with the values that are asked for.
 fn answer_with<R: Wait, C: Clock>(
-    desk: &Desk<'_, R, C>,
-    site: &Site<'_>,
+    reporter: &Reporter<'_, R, C>,
+    source: &StatusSource<'_>,
     values: &Values<'_>,
     asked: AskedValues,
     is_head: bool,
@@ -105,20 +109,27 @@ fn answer_with<R: Wait, C: Clock>(
         choice,
         range,
     } = asked;
-    let text = values.text(desk.alloc, desk.rt, choice, range, site.started)?;
+    let text = values.text(reporter.alloc, reporter.rt, choice, range, source.started)?;
     match resource {
         Resource::Points => {
             let page = PointsPage {
-                identity: site.identity,
+                identity: source.identity,
                 points: values.points(),
-                head: values.head(desk.rt),
+                head: values.head(reporter.rt),
                 from: range.from,
                 rows: text.as_str(),
             };
-            let body = page_text(desk.alloc, &page)?;
-            answer(desk.alloc, resource, is_head, true, POLICY, body.as_str())
+            let body = page_text(reporter.alloc, &page)?;
+            answer(
+                reporter.alloc,
+                resource,
+                is_head,
+                true,
+                POLICY,
+                body.as_str(),
+            )
         }
-        _ => answer(desk.alloc, resource, is_head, true, "", text.as_str()),
+        _ => answer(reporter.alloc, resource, is_head, true, "", text.as_str()),
     }
 }
 

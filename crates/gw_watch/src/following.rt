@@ -1,9 +1,9 @@
 //! The thread that follows the news, for whoever isn't a control centre. It looks at the core from outside of any step, and takes
 //! of each look at most as much as it has room for under one hold of the lock; no step does anything for it.
 
-use crate::site::Site;
+use crate::status_source::StatusSource;
 use gw_model::Observation;
-use gw_peers::Desk;
+use gw_peers::Reporter;
 use gw_threads::{Calls, Clock, Course};
 use gw_values::PointValue;
 use std::rt::Clock as Sleeps;
@@ -30,22 +30,22 @@ struct Follower {
 
 /// Follows the news until the server ends, where anybody wants to know them.
 pub fn follow<L: Course, S: Calls<L>, R: Wait + Sleeps, C: Clock>(
-    desk: &Desk<'_, R, C>,
+    reporter: &Reporter<'_, R, C>,
     shared: &S,
-    site: &Site<'_>,
+    source: &StatusSource<'_>,
 ) {
     let mut follower = Follower {
         room: [PointValue::NONE.observation; PIECE],
         next: 0,
     };
-    follower.show_all::<L, S, R, C>(desk, shared, site);
-    for _ in desk.rt.forever() {
+    follower.show_all::<L, S, R, C>(reporter, shared, source);
+    for _ in reporter.rt.forever() {
         let is_last = shared.stopping();
-        follower.look::<L, S, R, C>(desk, shared, site);
+        follower.look::<L, S, R, C>(reporter, shared, source);
         if is_last {
             return;
         }
-        thread::sleep(desk.rt, Duration::from_millis(LOOK_MS));
+        thread::sleep(reporter.rt, Duration::from_millis(LOOK_MS));
     }
 }
 
@@ -53,54 +53,59 @@ impl Follower {
     /// Takes what is new.
     fn look<L: Course, S: Calls<L>, R: Wait, C: Clock>(
         &mut self,
-        desk: &Desk<'_, R, C>,
+        reporter: &Reporter<'_, R, C>,
         shared: &S,
-        site: &Site<'_>,
+        source: &StatusSource<'_>,
     ) {
-        let wall = desk.clock.wall();
-        if let Some(values) = site.values {
-            values.look(desk.rt, wall);
+        let wall = reporter.clock.wall();
+        if let Some(values) = source.values {
+            values.look(reporter.rt, wall);
         }
         let mut passed: u64 = 0;
         for _ in 0..MOST_PIECES {
-            let piece = shared.copy_news(desk.rt, self.next, &mut self.room);
+            let piece = shared.copy_news(reporter.rt, self.next, &mut self.room);
             passed = passed.saturating_add(piece.first.saturating_sub(self.next));
-            self.pass_over(desk, site, wall, piece.first.saturating_sub(self.next));
+            self.pass_over(
+                reporter,
+                source,
+                wall,
+                piece.first.saturating_sub(self.next),
+            );
             self.next = piece.first.saturating_add(piece.count as u64);
-            self.take(desk, site, wall, piece.count);
+            self.take(reporter, source, wall, piece.count);
             if piece.count < PIECE {
                 break;
             }
         }
         if passed > 0 {
-            self.show_all::<L, S, R, C>(desk, shared, site);
+            self.show_all::<L, S, R, C>(reporter, shared, source);
         }
     }
 
     /// So many news were passed over, which is found at a moment.
     fn pass_over<R: Wait, C: Clock>(
         &self,
-        desk: &Desk<'_, R, C>,
-        site: &Site<'_>,
+        reporter: &Reporter<'_, R, C>,
+        source: &StatusSource<'_>,
         wall: u64,
         count: u64,
     ) {
         if count == 0 {
             return;
         }
-        if let Some(values) = site.values {
-            values.pass_over(desk.rt, count);
+        if let Some(values) = source.values {
+            values.pass_over(reporter.rt, count);
         }
-        if let Some(events) = site.events {
-            events.leave_out(desk.rt, wall, count);
+        if let Some(events) = source.events {
+            events.leave_out(reporter.rt, wall, count);
         }
     }
 
     /// Hands on so many news, which were told at a moment.
     fn take<R: Wait, C: Clock>(
         &self,
-        desk: &Desk<'_, R, C>,
-        site: &Site<'_>,
+        reporter: &Reporter<'_, R, C>,
+        source: &StatusSource<'_>,
         wall: u64,
         count: usize,
     ) {
@@ -108,28 +113,28 @@ impl Follower {
         if news.is_empty() {
             return;
         }
-        if let Some(values) = site.values {
-            values.take(desk.rt, news);
+        if let Some(values) = source.values {
+            values.take(reporter.rt, news);
         }
-        if let Some(events) = site.events {
-            events.add(desk.rt, wall, news);
+        if let Some(events) = source.events {
+            events.add(reporter.rt, wall, news);
         }
     }
 
     /// Hands on what is shown of all points, where anybody wants to know that: at first, and where news were passed over.
     fn show_all<L: Course, S: Calls<L>, R: Wait, C: Clock>(
         &mut self,
-        desk: &Desk<'_, R, C>,
+        reporter: &Reporter<'_, R, C>,
         shared: &S,
-        site: &Site<'_>,
+        source: &StatusSource<'_>,
     ) {
-        let Some(values) = site.values else {
+        let Some(values) = source.values else {
             return;
         };
         let mut position: usize = 0;
         for _ in 0..MOST_PIECES {
-            let count = shared.copy_picture(desk.rt, position, &mut self.room);
-            values.show(desk.rt, position, &self.room[..count.min(PIECE)]);
+            let count = shared.copy_picture(reporter.rt, position, &mut self.room);
+            values.show(reporter.rt, position, &self.room[..count.min(PIECE)]);
             position = position.saturating_add(count);
             if count < PIECE {
                 break;

@@ -7,8 +7,8 @@ mod controls;
 mod event_queue;
 mod following;
 mod process;
-mod site;
 mod status;
+mod status_source;
 mod values;
 mod watched;
 
@@ -16,7 +16,7 @@ pub use event_queue::EventQueue;
 pub use following::follow;
 pub use gw_status::Identity;
 pub use process::ProcessFiles;
-pub use site::Site;
 pub use status::serve_status;
+pub use status_source::StatusSource;
 pub use values::Values;
 pub use watched::Watched;

@@ -2,11 +2,11 @@
 ghost use Rattle.std.specs.Prelude.{None};
 
 use crate::asked_values::{answer_values, is_of_values, refuse_values};
-use crate::site::Site;
+use crate::status_source::StatusSource;
 use gw_admission::look_up_from_accept;
 use gw_http::{HttpRequest, Query, RequestFault, Resource, answer, receive, refuse};
 use gw_model::Memory;
-use gw_peers::{ClientCard, Desk, OutstationCard, Plan, shut};
+use gw_peers::{ClientRecord, OutstationLink, OutstationRecord, Reporter, shut};
 use gw_status::{
     ClientState, ClientStatus, Health, Life, Metrics, OrderStatus, OutstationStatus, Page,
     ProcessStatus, Status, Verdict, is_alive,
@@ -123,41 +123,41 @@ impl<'a, C: Clock> Write for Punctual<'a, C> {
 
 /// Answers requests, one after another, until the server ends, where the status is served.
 pub fn serve_status<L: Course, S: Calls<L>, R: Wait + Sleeps, C: Clock>(
-    desk: &Desk<'_, R, C>,
+    reporter: &Reporter<'_, R, C>,
     shared: &S,
-    site: &Site<'_>,
+    source: &StatusSource<'_>,
 ) {
-    let Some(listener) = site.status else {
+    let Some(listener) = source.status else {
         return;
     };
     look_up_from_accept(listener);
-    for _ in desk.rt.forever() {
+    for _ in reporter.rt.forever() {
         if shared.stopping() {
             return;
         }
         match listener.accept() {
-            Ok((stream, _)) => serve_request::<L, S, R, C>(desk, shared, site, &stream),
+            Ok((stream, _)) => serve_request::<L, S, R, C>(reporter, shared, source, &stream),
             Err(error) if error.kind() == ErrorKind::WouldBlock => {}
-            Err(_) => pause::<L, S, R>(desk.rt, shared),
+            Err(_) => pause::<L, S, R>(reporter.rt, shared),
         }
     }
 }
 
 /// Answers the request that comes on a connection, if one comes in time.
 fn serve_request<L: Course, S: Calls<L>, R: Wait, C: Clock>(
-    desk: &Desk<'_, R, C>,
+    reporter: &Reporter<'_, R, C>,
     shared: &S,
-    site: &Site<'_>,
+    source: &StatusSource<'_>,
     stream: &TcpStream,
 ) {
     let _ = stream.set_read_timeout(Some(Duration::from_millis(LOOK_MS)));
     let _ = stream.set_write_timeout(Some(Duration::from_millis(LOOK_MS)));
     let mut query = Query::none();
-    if let Some(request) = receive(&mut Punctual::giving(stream, desk.clock), &mut query) {
-        if is_of_values(&request, site) {
-            serve_values(desk, site, stream, &request, &query);
-        } else if let Ok(text) = answer_to::<L, S, R, C>(desk, shared, site, request) {
-            send(stream, desk.clock, LONGEST_MS, text.as_str());
+    if let Some(request) = receive(&mut Punctual::giving(stream, reporter.clock), &mut query) {
+        if is_of_values(&request, source) {
+            serve_values(reporter, source, stream, &request, &query);
+        } else if let Ok(text) = answer_to::<L, S, R, C>(reporter, shared, source, request) {
+            send(stream, reporter.clock, LONGEST_MS, text.as_str());
         }
     }
     shut(stream);
@@ -166,23 +166,23 @@ fn serve_request<L: Course, S: Calls<L>, R: Wait, C: Clock>(
 /// Answers a request for values of points. Only some are answered at a time, so that one who takes them slowly keeps nobody from
 /// the rest of the status.
 fn serve_values<R: Wait, C: Clock>(
-    desk: &Desk<'_, R, C>,
-    site: &Site<'_>,
+    reporter: &Reporter<'_, R, C>,
+    source: &StatusSource<'_>,
     stream: &TcpStream,
     request: &HttpRequest,
     query: &Query,
 ) {
-    let Some(values) = site.values else {
+    let Some(values) = source.values else {
         return;
     };
     if !values.begin_asking() {
-        if let Ok(text) = refuse_values(desk.alloc, request.is_head) {
-            send(stream, desk.clock, LONGEST_MS, text.as_str());
+        if let Ok(text) = refuse_values(reporter.alloc, request.is_head) {
+            send(stream, reporter.clock, LONGEST_MS, text.as_str());
         }
         return;
     }
-    if let Ok(text) = answer_values(desk, site, request, query) {
-        send(stream, desk.clock, LONGEST_VALUES_MS, text.as_str());
+    if let Ok(text) = answer_values(reporter, source, request, query) {
+        send(stream, reporter.clock, LONGEST_VALUES_MS, text.as_str());
     }
     values.end_asking();
 }
@@ -194,23 +194,23 @@ fn send<C: Clock>(stream: &TcpStream, clock: &C, longest_ms: u64, text: &str) {
 
 /// The answer to a request.
 fn answer_to<L: Course, S: Calls<L>, R: Wait, C: Clock>(
-    desk: &Desk<'_, R, C>,
+    reporter: &Reporter<'_, R, C>,
     shared: &S,
-    site: &Site<'_>,
+    source: &StatusSource<'_>,
     request: HttpRequest,
 ) -> Result<String, Memory> {
-    let tickless_ms = desk.board.pulse.age(desk.clock.moment());
+    let tickless_ms = reporter.peers.last_tick.age(reporter.clock.moment());
     match request.asked {
-        Err(refusal) => refuse(desk.alloc, refusal, request.is_head),
+        Err(refusal) => refuse(reporter.alloc, refusal, request.is_head),
         Ok(Resource::Points | Resource::PointsCsv | Resource::PointsJson) => {
-            refuse(desk.alloc, RequestFault::NotFound, request.is_head)
+            refuse(reporter.alloc, RequestFault::NotFound, request.is_head)
         }
         Ok(asked) if is_of_life(asked, tickless_ms) => {
-            answer_life(desk.alloc, asked, request.is_head, tickless_ms)
+            answer_life(reporter.alloc, asked, request.is_head, tickless_ms)
         }
         Ok(asked) => {
-            let status = status_of(desk, site, &shared.figures(desk.rt), tickless_ms)?;
-            answer_with(desk.alloc, asked, request.is_head, &status)
+            let status = status_of(reporter, source, &shared.figures(reporter.rt), tickless_ms)?;
+            answer_with(reporter.alloc, asked, request.is_head, &status)
         }
     }
 }
@@ -283,100 +283,105 @@ fn health_of(alloc: Global, status: &Status<'_>, verdict: &Verdict) -> Result<St
 
 /// How the gateway is now, with what is counted, where the core has made no tick for so many milliseconds.
 fn status_of<'a, R: Wait, C: Clock>(
-    desk: &Desk<'_, R, C>,
-    site: &Site<'a>,
+    reporter: &Reporter<'_, R, C>,
+    source: &StatusSource<'a>,
     counted: &Figures,
     tickless_ms: u64,
 ) -> Result<Status<'a>, Memory> {
-    let records = if site.is_recorded {
-        Some(!desk.journal.has_record_ended())
+    let records = if source.is_recorded {
+        Some(!reporter.journal.has_record_ended())
     } else {
         None
     };
     Ok(Status {
-        identity: site.identity,
-        now: desk.clock.wall(),
-        started: site.started,
+        identity: source.identity,
+        now: reporter.clock.wall(),
+        started: source.started,
         tickless_ms,
         steps: counted.calls,
         news: counted.news,
-        outstations: outstations_of(desk, site, counted)?,
-        clients: clients_of(desk, counted)?,
-        needs_centre: site.needs_centre,
+        outstations: outstations_of(reporter, source, counted)?,
+        clients: clients_of(reporter, counted)?,
+        needs_centre: source.needs_centre,
         records,
-        not_allowed: desk.board.not_allowed(),
-        left_out: desk.journal.left_out(desk.rt),
-        process: process_of(site),
-        passed_over: site.values.map(|values| values.head(desk.rt).passed_over),
-        events_left_out: site.events.map(|events| events.left_out()),
+        not_allowed: reporter.peers.not_allowed(),
+        left_out: reporter.journal.left_out(reporter.rt),
+        process: process_of(source),
+        passed_over: source
+            .values
+            .map(|values| values.head(reporter.rt).passed_over),
+        events_left_out: source.events.map(|events| events.left_out()),
     })
 }
 
 /// What the process takes, if the system tells.
-fn process_of(site: &Site<'_>) -> Option<ProcessStatus> {
-    site.process?.read()
+fn process_of(source: &StatusSource<'_>) -> Option<ProcessStatus> {
+    source.process?.read()
 }
 
 /// How it is with each outstation.
 fn outstations_of<R: Wait, C: Clock>(
-    desk: &Desk<'_, R, C>,
-    site: &Site<'_>,
+    reporter: &Reporter<'_, R, C>,
+    source: &StatusSource<'_>,
     counted: &Figures,
 ) -> Result<Vec<OutstationStatus>, Memory> {
-    let cards = desk.board.outstations();
-    let mut outstations = Vec::with_capacity(desk.alloc, cards.len())?;
-    for (position, card) in cards.iter().enumerate() {
-        if let (Some(plan), Some(orders)) = (
-            site.plans.get(position),
+    let records = reporter.peers.outstations();
+    let mut outstations = Vec::with_capacity(reporter.alloc, records.len())?;
+    for (position, record) in records.iter().enumerate() {
+        if let (Some(link), Some(orders)) = (
+            source.links.get(position),
             counted.orders.get(position),
         ) {
-            let name = name_at(desk, position)?;
-            outstations.push(outstation_status(desk, site, card, plan, name, *orders)?)?;
+            let name = name_at(reporter, position)?;
+            outstations.push(outstation_status(reporter, source, record, link, name, *orders)?)?;
         }
     }
     Ok(outstations)
 }
 
 /// What the outstation at a position is called; nothing where it has no name.
-fn name_at<R: Wait, C: Clock>(desk: &Desk<'_, R, C>, position: usize) -> Result<String, Memory> {
+fn name_at<R: Wait, C: Clock>(
+    reporter: &Reporter<'_, R, C>,
+    position: usize,
+) -> Result<String, Memory> {
     let outstation = u8::try_from(position).unwrap_or(u8::MAX);
-    let name = desk.journal.name_of(outstation).unwrap_or("");
-    Ok(String::from_str(desk.alloc, name)?)
+    let name = reporter.journal.name_of(outstation).unwrap_or("");
+    Ok(String::from_str(reporter.alloc, name)?)
 }
 
-/// How it is with each place for a client.
+/// How it is with each slot for a client.
 fn clients_of<R: Wait, C: Clock>(
-    desk: &Desk<'_, R, C>,
+    reporter: &Reporter<'_, R, C>,
     counted: &Figures,
 ) -> Result<Vec<ClientStatus>, Memory> {
-    let cards = desk.board.clients();
-    let mut clients = Vec::with_capacity(desk.alloc, cards.len())?;
-    for (place, card) in cards.iter().enumerate() {
-        clients.push(client_status(desk.rt, card, counted, place))?;
+    let records = reporter.peers.clients();
+    let mut clients = Vec::with_capacity(reporter.alloc, records.len())?;
+    for (slot, record) in records.iter().enumerate() {
+        clients.push(client_status(reporter.rt, record, counted, slot))?;
     }
     Ok(clients)
 }
 
-/// How it is with an outstation of a name that is reached this way, and with its orders.
+/// How it is with an outstation of a name that is reached over this link, and with its orders.
 fn outstation_status<R: Wait, C: Clock>(
-    desk: &Desk<'_, R, C>,
-    site: &Site<'_>,
-    card: &OutstationCard,
-    plan: &Plan,
+    reporter: &Reporter<'_, R, C>,
+    source: &StatusSource<'_>,
+    record: &OutstationRecord,
+    link: &OutstationLink,
     name: String,
     orders: OrderCounts,
 ) -> Result<OutstationStatus, Memory> {
-    let place = plan.connect.clone()?;
-    let figures = card.figures.lock(desk.rt);
-    let reason = format!(in desk.alloc; "{}", figures.absence)?;
+    let place = link.connect.clone()?;
+    let figures = record.figures.lock(reporter.rt);
+    let reason = format!(in reporter.alloc; "{}", figures.absence)?;
     Ok(OutstationStatus {
         name,
         place,
-        address: plan.peer,
-        common_address: plan.common_address,
-        is_given_time: plan.is_given_time,
+        address: link.peer,
+        common_address: link.common_address,
+        is_given_time: link.is_given_time,
         state: figures.state,
-        state_since: figures.state_since.unwrap_or(site.started),
+        state_since: figures.state_since.unwrap_or(source.started),
         reason,
         connected_since: figures.connected_since,
         has_answered: figures.has_answered(),
@@ -389,7 +394,7 @@ fn outstation_status<R: Wait, C: Clock>(
         indications: figures.indications,
         is_clock_not_set: figures.is_clock_not_set(),
         events: figures.events,
-        points: card.point_status(desk.rt, figures.has_told_all()),
+        points: record.point_status(reporter.rt, figures.has_told_all()),
         orders: orders_of(orders),
     })
 }
@@ -405,21 +410,21 @@ fn orders_of(counts: OrderCounts) -> OrderStatus {
     }
 }
 
-/// How it is with the place at a position. What is said of the client that has it isn't said where nobody has.
+/// How it is with the slot at a position. What is said of the client that has it isn't said where nobody has.
 fn client_status<R: Wait>(
     rt: &R,
-    card: &ClientCard,
+    record: &ClientRecord,
     counted: &Figures,
-    place: usize,
+    slot: usize,
 ) -> ClientStatus {
-    let dropped = counted.dropped.get(place).copied().unwrap_or(0);
-    let figures = card.figures.lock(rt);
+    let dropped = counted.dropped.get(slot).copied().unwrap_or(0);
+    let figures = record.figures.lock(rt);
     let state = figures.state(dropped);
     let (unacknowledged, queued) = match state {
         ClientState::Free => (0, 0),
         _ => (
-            number_at(&counted.unacknowledged, place),
-            number_at(&counted.queued, place),
+            number_at(&counted.unacknowledged, slot),
+            number_at(&counted.queued, slot),
         ),
     };
     ClientStatus {

@@ -4,7 +4,7 @@
 use crate::controls::{note_refusal, tell_end, tell_of_commands, tell_of_controls};
 use dnp_app::AppFault;
 use gw_journal::{JournalEvent, Unreadable, Way};
-use gw_peers::{Desk, Source};
+use gw_peers::{Reporter, StepSource};
 use gw_threads::{
     ApduKind, Clock, Effects, FrameHeader, Gate, Observer, Place, Pumps, Reply, Reported, Step,
     StepFault, StepKind, UnknownAsdu, Verdict,
@@ -17,81 +17,81 @@ const CONTROL: usize = 2;
 
 const TEST_ACT: u8 = 0x43;
 
-/// A gate with the desk beside it.
+/// A gate with the reporter beside it.
 #[derive(Drop)]
 pub struct Watched<'a, R, C, G> {
-    pub desk: &'a Desk<'a, R, C>,
+    pub reporter: &'a Reporter<'a, R, C>,
     pub gate: &'a G,
 }
 
 /// A fragment of an outstation that said this was accepted by the step of this number, and ends the answer to a request or
 /// doesn't.
 fn answered<R: Wait, C: Clock>(
-    desk: &Desk<'_, R, C>,
+    reporter: &Reporter<'_, R, C>,
     step: u64,
     outstation: u8,
     reported: &Reported,
     ends: bool,
 ) {
-    let Some(card) = desk.board.outstation(outstation) else {
+    let Some(record) = reporter.peers.outstation(outstation) else {
         return;
     };
-    let wall = desk.clock.wall();
-    let noticed = card
+    let wall = reporter.clock.wall();
+    let noticed = record
         .figures
-        .lock(desk.rt)
+        .lock(reporter.rt)
         .answered(step, wall, reported, ends);
-    card.takes_reports(desk.rt);
-    desk.tell_noticed(outstation, noticed);
+    record.takes_reports(reporter.rt);
+    reporter.tell_noticed(outstation, noticed);
 }
 
 /// A request goes to an outstation.
-fn asked<R: Wait, C: Clock>(desk: &Desk<'_, R, C>, outstation: u8) {
-    if let Some(card) = desk.board.outstation(outstation) {
-        card.figures.lock(desk.rt).asked();
+fn asked<R: Wait, C: Clock>(reporter: &Reporter<'_, R, C>, outstation: u8) {
+    if let Some(record) = reporter.peers.outstation(outstation) {
+        record.figures.lock(reporter.rt).asked();
     }
 }
 
 /// The request to an outstation wasn't answered in time, as the step of this number found.
-fn unanswered<R: Wait, C: Clock>(desk: &Desk<'_, R, C>, step: u64, outstation: usize) {
-    if let Some(card) = desk.board.outstations().get(outstation) {
-        let wall = desk.clock.wall();
-        card.figures.lock(desk.rt).unanswered(step, wall);
+fn unanswered<R: Wait, C: Clock>(reporter: &Reporter<'_, R, C>, step: u64, outstation: usize) {
+    if let Some(record) = reporter.peers.outstations().get(outstation) {
+        let wall = reporter.clock.wall();
+        record.figures.lock(reporter.rt).unanswered(step, wall);
     }
 }
 
 /// A tick closed the connections of the clients whose bit is set, since t1 had expired.
-fn expired<R: Wait, C: Clock>(desk: &Desk<'_, R, C>, closed: u8) {
+fn expired<R: Wait, C: Clock>(reporter: &Reporter<'_, R, C>, closed: u8) {
     let mut left = closed;
-    for card in desk.board.clients() {
+    for record in reporter.peers.clients() {
         if left % 2 == 1 {
-            card.expires(desk.rt);
+            record.expires(reporter.rt);
         }
         left /= 2;
     }
 }
 
 /// The core counts an outstation as lost.
-fn lost<R: Wait, C: Clock>(desk: &Desk<'_, R, C>, outstation: u8) {
-    if let Some(card) = desk.board.outstation(outstation) {
-        card.loses_points(desk.rt);
+fn lost<R: Wait, C: Clock>(reporter: &Reporter<'_, R, C>, outstation: u8) {
+    if let Some(record) = reporter.peers.outstation(outstation) {
+        record.loses_points(reporter.rt);
     }
 }
 
 /// A fragment of an outstation with these octets was refused.
 fn refused<R: Wait, C: Clock>(
-    desk: &Desk<'_, R, C>,
+    reporter: &Reporter<'_, R, C>,
     outstation: u8,
     octets: &[u8],
     fault: &AppFault,
 ) {
-    let Some(card) = desk.board.outstation(outstation) else {
+    let Some(record) = reporter.peers.outstation(outstation) else {
         return;
     };
-    let (wall, fault) = (desk.clock.wall(), Unreadable::of(fault, octets));
-    let told = card.figures.lock(desk.rt).refused(wall, fault);
+    let (wall, fault) = (reporter.clock.wall(), Unreadable::of(fault, octets));
+    let told = record.figures.lock(reporter.rt).refused(wall, fault);
     if let Some(left_out) = told {
-        desk.tell(JournalEvent::FragmentRefused {
+        reporter.tell(JournalEvent::FragmentRefused {
             outstation,
             fault,
             left_out,
@@ -100,27 +100,27 @@ fn refused<R: Wait, C: Clock>(
 }
 
 /// An APDU of a client was taken.
-fn heard<R: Wait, C: Clock>(desk: &Desk<'_, R, C>, client: u8, kind: ApduKind) {
-    if let Some(card) = desk.board.client(client) {
+fn heard<R: Wait, C: Clock>(reporter: &Reporter<'_, R, C>, client: u8, kind: ApduKind) {
+    if let Some(record) = reporter.peers.client(client) {
         let confirms_test = matches!(kind, ApduKind::UFormat(Signal::TestCon));
-        card.hears(desk.rt, desk.clock.moment(), confirms_test);
+        record.hears(reporter.rt, reporter.clock.moment(), confirms_test);
     }
     match kind {
-        ApduKind::UFormat(signal) => signalled(desk, client, signal),
-        ApduKind::Unknown(asdu) => asked_unknown(desk, client, asdu),
+        ApduKind::UFormat(signal) => signalled(reporter, client, signal),
+        ApduKind::Unknown(asdu) => asked_unknown(reporter, client, asdu),
         ApduKind::SFormat | ApduKind::Command(_) | ApduKind::Other => {}
     }
 }
 
 /// A client sent an ASDU of a type that isn't known.
-fn asked_unknown<R: Wait, C: Clock>(desk: &Desk<'_, R, C>, client: u8, asdu: UnknownAsdu) {
-    let Some(card) = desk.board.client(client) else {
+fn asked_unknown<R: Wait, C: Clock>(reporter: &Reporter<'_, R, C>, client: u8, asdu: UnknownAsdu) {
+    let Some(record) = reporter.peers.client(client) else {
         return;
     };
-    let wall = desk.clock.wall();
-    let told = card.figures.lock(desk.rt).unknown(wall, asdu);
+    let wall = reporter.clock.wall();
+    let told = record.figures.lock(reporter.rt).unknown(wall, asdu);
     if let Some((address, asdus)) = told {
-        desk.tell(JournalEvent::UnknownTypes {
+        reporter.tell(JournalEvent::UnknownTypes {
             client,
             address,
             asdus,
@@ -129,29 +129,29 @@ fn asked_unknown<R: Wait, C: Clock>(desk: &Desk<'_, R, C>, client: u8, asdu: Unk
 }
 
 /// A client is tested, where the APDUs that it is given by pumps have a TESTFR act.
-fn tested<R: Wait, C: Clock>(desk: &Desk<'_, R, C>, pumps: &Pumps<'_>) {
+fn tested<R: Wait, C: Clock>(reporter: &Reporter<'_, R, C>, pumps: &Pumps<'_>) {
     if Apdus(pumps.apdus).any(|apdu| apdu.get(CONTROL) == Some(&TEST_ACT)) {
-        if let Some(card) = desk.board.client(pumps.client) {
-            card.tests(desk.rt, pumps.moment);
+        if let Some(record) = reporter.peers.client(pumps.client) {
+            record.tests(reporter.rt, pumps.moment);
         }
     }
 }
 
 /// A client sent the act of a U format.
-fn signalled<R: Wait, C: Clock>(desk: &Desk<'_, R, C>, client: u8, signal: Signal) {
-    let Some(card) = desk.board.client(client) else {
+fn signalled<R: Wait, C: Clock>(reporter: &Reporter<'_, R, C>, client: u8, signal: Signal) {
+    let Some(record) = reporter.peers.client(client) else {
         return;
     };
     match signal {
         Signal::StartAct => {
-            if let Some(address) = card.starts(desk.rt, desk.clock.wall()) {
-                desk.tell(JournalEvent::TransferStarted { client, address });
+            if let Some(address) = record.starts(reporter.rt, reporter.clock.wall()) {
+                reporter.tell(JournalEvent::TransferStarted { client, address });
             }
         }
         Signal::StopAct => {
-            let (wall, moment) = (desk.clock.wall(), desk.clock.moment());
-            if let Some(address) = card.stops(desk.rt, wall, moment) {
-                desk.tell(JournalEvent::TransferStopped { client, address });
+            let (wall, moment) = (reporter.clock.wall(), reporter.clock.moment());
+            if let Some(address) = record.stops(reporter.rt, wall, moment) {
+                reporter.tell(JournalEvent::TransferStopped { client, address });
             }
         }
         Signal::TestAct | Signal::StartCon | Signal::StopCon | Signal::TestCon => {}
@@ -160,7 +160,7 @@ fn signalled<R: Wait, C: Clock>(desk: &Desk<'_, R, C>, client: u8, signal: Signa
 
 /// Notes what the step of this number was answered, and tells of it.
 fn tell_reply<R: Wait, C: Clock>(
-    desk: &Desk<'_, R, C>,
+    reporter: &Reporter<'_, R, C>,
     number: u64,
     kind: StepKind,
     reply: &Reply,
@@ -169,40 +169,40 @@ fn tell_reply<R: Wait, C: Clock>(
     match (kind, reply) {
         (StepKind::Fragment(outstation), Reply::Verdict(Verdict::Accepted { end, .. })) => {
             if let Some(reported) = effects.reported() {
-                answered(desk, number, outstation, &reported, *end);
+                answered(reporter, number, outstation, &reported, *end);
             }
         }
-        (StepKind::Poll(outstation), Reply::Request(_)) => asked(desk, outstation),
-        (StepKind::OutstationDown(outstation), Reply::Done) => lost(desk, outstation),
+        (StepKind::Poll(outstation), Reply::Request(_)) => asked(reporter, outstation),
+        (StepKind::OutstationDown(outstation), Reply::Done) => lost(reporter, outstation),
         (StepKind::Tick, Reply::Ticked { closed }) => {
-            desk.board.pulse.beat(desk.clock.moment());
-            expired(desk, *closed);
+            reporter.peers.last_tick.note(reporter.clock.moment());
+            expired(reporter, *closed);
         }
         (StepKind::Frame(client), Reply::Taken) => {
             if let Some(kind) = effects.apdu() {
-                heard(desk, client, kind);
+                heard(reporter, client, kind);
             }
         }
         _ => {}
     }
-    tell_of_controls(desk, kind, reply, effects);
+    tell_of_controls(reporter, kind, reply, effects);
 }
 
 /// Tells what the step of this number did besides its reply.
 fn tell_effects<R: Wait, C: Clock>(
-    desk: &Desk<'_, R, C>,
+    reporter: &Reporter<'_, R, C>,
     number: u64,
     kind: StepKind,
     effects: &Effects,
 ) {
     for outstation in effects.unanswered().iter() {
-        unanswered(desk, number, *outstation);
+        unanswered(reporter, number, *outstation);
     }
     if let StepKind::Frame(client) = kind {
-        note_refusal(desk, number, client, effects);
+        note_refusal(reporter, number, client, effects);
     }
     for end in effects.ended().iter() {
-        tell_end(desk, number, end);
+        tell_end(reporter, number, end);
     }
 }
 
@@ -211,9 +211,9 @@ impl<'a, R: Wait, C: Clock, G: Gate> Observer for Watched<'a, R, C, G> {
 
     fn keep(&self, step: &Step) -> G::Kept {
         if let Some(source) = source_of(step.kind()) {
-            self.desk.board.sequence.begin(self.desk.rt, source);
+            self.reporter.peers.sequence.begin(self.reporter.rt, source);
         }
-        foresee(self.desk, step);
+        foresee(self.reporter, step);
         self.gate.keep(step)
     }
 
@@ -226,18 +226,18 @@ impl<'a, R: Wait, C: Clock, G: Gate> Observer for Watched<'a, R, C, G> {
         effects: &Effects,
     ) {
         if let Ok(reply) = reply {
-            tell_reply(self.desk, number, kind, reply, effects);
-            tell_effects(self.desk, number, kind, effects);
+            tell_reply(self.reporter, number, kind, reply, effects);
+            tell_effects(self.reporter, number, kind, effects);
         }
         self.gate.step(kept, number, kind, reply, effects);
         if let Some(source) = source_of(kind) {
-            self.desk.board.sequence.end(self.desk.rt, source);
+            self.reporter.peers.sequence.end(self.reporter.rt, source);
         }
     }
 
     fn pumps(&self, pumps: &Pumps<'_>) {
-        tested(self.desk, pumps);
-        tell_of_commands(self.desk, pumps);
+        tested(self.reporter, pumps);
+        tell_of_commands(self.reporter, pumps);
         self.gate.pumps(pumps);
     }
 }
@@ -249,13 +249,16 @@ impl<'a, R: Wait, C: Clock, G: Gate> Gate for Watched<'a, R, C, G> {
 
     fn refused(&self, outstation: u8, octets: &[u8], fault: &AppFault) {
         self.gate.refused(outstation, octets, fault);
-        refused(self.desk, outstation, octets, fault);
+        refused(self.reporter, outstation, octets, fault);
     }
 
     fn skipped(&self, outstation: u8, octets: u32) {
         self.gate.skipped(outstation, octets);
-        if let Some(card) = self.desk.board.outstation(outstation) {
-            card.figures.lock(self.desk.rt).skipped(u64::from(octets));
+        if let Some(record) = self.reporter.peers.outstation(outstation) {
+            record
+                .figures
+                .lock(self.reporter.rt)
+                .skipped(u64::from(octets));
         }
     }
 
@@ -266,50 +269,50 @@ impl<'a, R: Wait, C: Clock, G: Gate> Gate for Watched<'a, R, C, G> {
             source,
             destination,
         } = *header;
-        if let Some(card) = self.desk.board.outstation(outstation) {
+        if let Some(record) = self.reporter.peers.outstation(outstation) {
             let way = Way {
                 source,
                 destination,
             };
-            card.received(self.desk.rt, control, way);
+            record.received(self.reporter.rt, control, way);
         }
     }
 
     fn passed_over(&self, outstation: u8, objects: u64) {
         self.gate.passed_over(outstation, objects);
-        if let Some(card) = self.desk.board.outstation(outstation) {
-            card.figures.lock(self.desk.rt).passed_over(objects);
+        if let Some(record) = self.reporter.peers.outstation(outstation) {
+            record.figures.lock(self.reporter.rt).passed_over(objects);
         }
     }
 
     fn status_unanswered(&self, outstation: u8) {
         self.gate.status_unanswered(outstation);
-        self.desk
+        self.reporter
             .tell(JournalEvent::LinkStatusUnanswered { outstation });
     }
 
     fn stood_still(&self, milliseconds: u64) {
         self.gate.stood_still(milliseconds);
-        self.desk
+        self.reporter
             .tell(JournalEvent::HostStoodStill { milliseconds });
     }
 }
 
 /// Notes what a step is about to do.
-fn foresee<R: Wait, C: Clock>(desk: &Desk<'_, R, C>, step: &Step) {
+fn foresee<R: Wait, C: Clock>(reporter: &Reporter<'_, R, C>, step: &Step) {
     match step {
         Step::Frame {
             client,
             apdu: Apdu::U(Signal::StartAct),
             ..
         } => {
-            if let Some(card) = desk.board.client(*client) {
-                card.keeps_place(desk.rt);
+            if let Some(record) = reporter.peers.client(*client) {
+                record.keeps_slot(reporter.rt);
             }
         }
         Step::Fragment { response, .. } => {
-            if let Some(card) = desk.board.outstation(response.outstation()) {
-                card.reports(desk.rt, response.reports());
+            if let Some(record) = reporter.peers.outstation(response.outstation()) {
+                record.reports(reporter.rt, response.reports());
             }
         }
         _ => {}
@@ -317,12 +320,12 @@ fn foresee<R: Wait, C: Clock>(desk: &Desk<'_, R, C>, step: &Step) {
 }
 
 /// From where a step comes of which others wait until it was told.
-fn source_of(kind: StepKind) -> Option<Source> {
+fn source_of(kind: StepKind) -> Option<StepSource> {
     match kind {
-        StepKind::Frame(client) => Some(Source::Client(client)),
-        StepKind::Fragment(outstation) => Some(Source::Outstation(outstation)),
-        StepKind::OutstationDown(outstation) => Some(Source::Loss(outstation)),
-        StepKind::Tick => Some(Source::Clock),
+        StepKind::Frame(client) => Some(StepSource::Client(client)),
+        StepKind::Fragment(outstation) => Some(StepSource::Outstation(outstation)),
+        StepKind::OutstationDown(outstation) => Some(StepSource::Loss(outstation)),
+        StepKind::Tick => Some(StepSource::Clock),
         StepKind::OutstationUp(_)
         | StepKind::Poll(_)
         | StepKind::ClientUp(_)

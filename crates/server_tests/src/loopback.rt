@@ -3,7 +3,7 @@
 
 use crate::seen::{Seen, is_seen};
 use gw_map::Settings;
-use gw_server::{Host, SystemClock, serve};
+use gw_server::{System, SystemClock, serve};
 use std::io::{Read, Write};
 use std::net::{Net, Shutdown, SocketAddr, TcpListener, TcpStream};
 use std::process::Abort;
@@ -61,7 +61,7 @@ fn loopback(rt: HostRuntime) {
     meet(&rt, &outstation, &server);
 }
 
-/// The server and its two peers, each in a thread of its own, that listen here. (Its bounds are those of `Host`,
+/// The server and its two peers, each in a thread of its own, that listen here. (Its bounds are those of `System`,
 /// spelled out for the test's proof.)
 fn meet<
     R: Net<Listener = TcpListener, Stream = TcpStream>
@@ -98,7 +98,7 @@ fn address_of<R: Abort>(rt: &R, listener: &TcpListener) -> SocketAddr {
 }
 
 /// Serves one session, to its end.
-fn serve_one<R: Host + Abort + AllocGlobal>(
+fn serve_one<R: System + Abort + AllocGlobal>(
     rt: &R,
     outstation: &TcpListener,
     server: &TcpListener,
@@ -149,7 +149,7 @@ address = 4301
 }
 
 /// The outstation: answers the first poll, and reads on until the server is gone. Whether the poll was the wanted one.
-fn answer<R: Host + Abort>(rt: &R, listener: &TcpListener, seen: &Seen) -> bool {
+fn answer<R: System + Abort>(rt: &R, listener: &TcpListener, seen: &Seen) -> bool {
     let (stream, _) = listener.accept().expect(rt, "the server connects");
     let is_right = is_seen(rt, &seen.requests, 1)
         && reads(&stream, &POLL)
@@ -161,7 +161,7 @@ fn answer<R: Host + Abort>(rt: &R, listener: &TcpListener, seen: &Seen) -> bool 
 
 /// The client, once the outstation's answer is known: starts, interrogates, and leaves. Whether it was answered as
 /// wanted.
-fn interrogate<R: Host + Abort>(rt: &R, server: &TcpListener, seen: &Seen) -> bool {
+fn interrogate<R: System + Abort>(rt: &R, server: &TcpListener, seen: &Seen) -> bool {
     let is_known = is_seen(rt, &seen.responses, 1);
     let patience = Duration::from_secs(PATIENCE);
     let stream = TcpStream::connect_timeout(rt, &address_of(rt, server), patience).expect(

@@ -1,6 +1,6 @@
 //! A test of the order in which the server tells: whoever tells what follows from a step waits until that step was told.
 
-use gw_peers::{Sequence, Source};
+use gw_peers::{Sequence, StepSource};
 use std::process::Abort;
 use std::rt::Clock as Sleeps;
 use std::sync::Wait;
@@ -12,11 +12,11 @@ use std::time::Duration;
 const LATE_MS: u64 = 50;
 
 /// Each source of steps.
-const SOURCES: [Source; 4] = [
-    Source::Client(0),
-    Source::Outstation(0),
-    Source::Loss(0),
-    Source::Clock,
+const SOURCES: [StepSource; 4] = [
+    StepSource::Client(0),
+    StepSource::Outstation(0),
+    StepSource::Loss(0),
+    StepSource::Clock,
 ];
 
 #[test]
@@ -27,7 +27,7 @@ fn sequence(rt: HostRuntime) {
 }
 
 /// One thread waits for what is under way, while another tells it late.
-fn wait_for<R: Threads + Wait + Sleeps + Abort + AllocGlobal + Sync>(rt: &R, source: Source) {
+fn wait_for<R: Threads + Wait + Sleeps + Abort + AllocGlobal + Sync>(rt: &R, source: StepSource) {
     let sequence = Sequence::new(rt.alloc(), 1, 1).expect(rt, "memory");
     let has_settled = AtomicBool::new(false);
     sequence.begin(rt, source);
@@ -55,7 +55,7 @@ fn settles<R: Wait>(rt: &R, sequence: &Sequence, has_settled: &AtomicBool) -> bo
 fn tells_late<R: Wait + Sleeps>(
     rt: &R,
     sequence: &Sequence,
-    source: Source,
+    source: StepSource,
     has_settled: &AtomicBool,
 ) -> bool {
     thread::sleep(rt, Duration::from_millis(LATE_MS));

@@ -8,4 +8,4 @@ ghosts-serve_line-N-Naming g a = record { book = a.history.seen.book }
 
 abbrev pub ghosts-serve_line-N-LineCourse : goal.ghosts-serve_line-N-LineCourse
 ghosts-serve_line-N-LineCourse g a =
-    record { own = a.plan.now.own; peer = a.plan.now.peer; first = None; failed = false }
+    record { own = a.link.now.own; peer = a.link.now.peer; first = None; failed = false }

@@ -1,4 +1,4 @@
-//! How a client holds its place.
+//! The connection of the client that has a slot.
 
 use crate::tcp::shut;
 use std::net::{IpAddr, SocketAddr, TcpStream};
@@ -7,10 +7,10 @@ use std::net::{IpAddr, SocketAddr, TcpStream};
 /// one that is tested may be about to answer.
 const GRACE_MS: u64 = 1000;
 
-/// How a client holds its place.
+/// The connection of the client that has a slot.
 #[derive(Drop)]
-pub struct Hold {
-    /// Where it connects from; nowhere where the place has no client.
+pub struct ClientConnection {
+    /// Where it connects from; nowhere where the slot has no client.
     address: Option<SocketAddr>,
     /// How many clients had connected before.
     order: u64,
@@ -30,10 +30,10 @@ pub struct Hold {
     has_expired: bool,
 }
 
-impl Hold {
-    /// Nobody holds the place.
-    pub fn nobody() -> Hold {
-        Hold {
+impl ClientConnection {
+    /// Nobody has the slot.
+    pub fn none() -> ClientConnection {
+        ClientConnection {
             address: None,
             order: 0,
             since: 0,
@@ -46,9 +46,14 @@ impl Hold {
         }
     }
 
-    /// A client holds it since a moment, behind so many that had connected before.
-    pub fn by(stream: &TcpStream, address: SocketAddr, order: u64, since: u64) -> Hold {
-        Hold {
+    /// A client has it since a moment, behind so many that had connected before.
+    pub fn new(
+        stream: &TcpStream,
+        address: SocketAddr,
+        order: u64,
+        since: u64,
+    ) -> ClientConnection {
+        ClientConnection {
             address: Some(address),
             order,
             since,

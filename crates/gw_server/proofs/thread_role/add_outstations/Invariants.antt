@@ -1,7 +1,7 @@
 -- The passes that are left are those of the outstations so far down.
 use Rattle.std.proofs.Common.{◌≡◌, ◌*◌, vec_len}
 use Rattle.gw_server.specs.Roles.{AreFirst}
-use Rattle.gw_server.proofs.duty.add_outstations.Given as goal
+use Rattle.gw_server.proofs.thread_role.add_outstations.Given as goal
 
 abbrev pub invariant-outstations : goal.invariant-outstations
 invariant-outstations g l = record {

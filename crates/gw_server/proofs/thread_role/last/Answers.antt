@@ -2,7 +2,7 @@ use Rattle.std.proofs.Common.{◌∙◌, sym, subst}
 use Rattle.std.proofs.lemmas.List.{append-nil}
 use Rattle.gw_server.specs.Roles.{AreFirst}
 use Rattle.gw_server.proofs.Roles.{one_less}
-use Rattle.gw_server.proofs.duty.last.Goals as goal
+use Rattle.gw_server.proofs.thread_role.last.Goals as goal
 
 pub returns-in-Some-clause-passes : goal.returns-in-Some-clause-passes
 returns-in-Some-clause-passes g c = (one_less _ _ c.in-Some.pass c.requires c.in-Some.ensures.items).0

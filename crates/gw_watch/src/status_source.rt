@@ -1,22 +1,22 @@
-//! What is served.
+//! What is served to those who ask for the status.
 ghost use Rattle.std.specs.Prelude.{◌≤◌};
 
 use crate::event_queue::EventQueue;
 use crate::process::ProcessFiles;
 use crate::values::Values;
-use gw_admission::Door;
+use gw_admission::Acceptor;
 use gw_model::OUTSTATIONS;
-use gw_peers::Plan;
+use gw_peers::OutstationLink;
 use gw_status::Identity;
 use std::net::TcpListener;
 
-/// What is served.
+/// What is served to those who ask for the status.
 #[derive(Drop)]
-pub struct Site<'a> {
-    /// Where clients come in.
-    pub door: Door<'a>,
-    /// The ways to the outstations.
-    pub plans: &'a [Plan],
+pub struct StatusSource<'a> {
+    /// What accepts clients.
+    pub acceptor: Acceptor<'a>,
+    /// The links to the outstations.
+    pub links: &'a [OutstationLink],
     /// Which gateway this is.
     pub identity: Identity<'a>,
     /// Whether it is wrong that no client transfers data.
@@ -35,11 +35,11 @@ pub struct Site<'a> {
     pub started: u64,
 }
 
-impl<'a> Site<'a> {
+impl<'a> StatusSource<'a> {
     /// How many outstations are served.
     pub fn outstations(&self) -> u8
         ensures { result ≤ 32 }
     {
-        self.plans.len().min(usize::from(OUTSTATIONS)) as u8
+        self.links.len().min(usize::from(OUTSTATIONS)) as u8
     }
 }

@@ -4,20 +4,20 @@ use std::sync::atomic::{AtomicU64, Ordering};
 
 /// The moment of the last tick of the core.
 #[derive(Drop)]
-pub struct Pulse {
+pub struct LastTick {
     last: AtomicU64,
 }
 
-impl Pulse {
+impl LastTick {
     /// No tick was made since a moment.
-    pub fn new(moment: u64) -> Pulse {
-        Pulse {
+    pub fn new(moment: u64) -> LastTick {
+        LastTick {
             last: AtomicU64::new(moment),
         }
     }
 
     /// A tick was made at a moment.
-    pub fn beat(&self, moment: u64) {
+    pub fn note(&self, moment: u64) {
         self.last.store(moment, Ordering::SeqCst);
     }
 

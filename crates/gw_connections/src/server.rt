@@ -2,26 +2,26 @@
 ghost use Rattle.gw_shared.specs.Roles.{MayMake};
 ghost use Rattle.gw_shared.specs.Tried.{IsTried};
 
-use gw_peers::Desk;
+use gw_peers::Reporter;
 use gw_readers::{Calls, Clock, Course, Gate, Pass, Step, make_call};
 use std::sync::Wait;
 
 /// What the threads share that make steps on the core.
 #[derive(Drop)]
-pub struct House<'a, S, R, C, G> {
-    pub desk: &'a Desk<'a, R, C>,
+pub struct Server<'a, S, R, C, G> {
+    pub reporter: &'a Reporter<'a, R, C>,
     pub shared: &'a S,
     pub gate: &'a G,
 }
 
 /// Makes a step on the core; whether it was made.
 pub fn is_made<L: Course, S: Calls<L>, R: Wait, C: Clock, G: Gate>(
-    house: &House<'_, S, R, C, G>,
+    server: &Server<'_, S, R, C, G>,
     pass: &mut Pass<L>,
     step: Step,
 ) -> bool
     requires may { MayMake L.roles pass.old.actor step }
     ensures { IsTried L.setup pass.old pass.new step result }
 {
-    make_call(house.desk.rt, house.shared, pass, step, house.gate).is_ok()
+    make_call(server.reporter.rt, server.shared, pass, step, server.gate).is_ok()
 }

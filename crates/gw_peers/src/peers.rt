@@ -1,10 +1,10 @@
 //! What is known of each peer, outside the core's lock.
 
 use crate::callers::Callers;
-use crate::hold::Hold;
-use crate::plan::Plan;
+use crate::client_connection::ClientConnection;
+use crate::last_tick::LastTick;
+use crate::outstation_link::OutstationLink;
 use crate::points::Points;
-use crate::pulse::Pulse;
 use crate::reasons::Reasons;
 use crate::sequence::Sequence;
 use gw_journal::{ClientFigures, DueNotes, OutstationFigures, StrayFrame, UnknownAsdus, Way};
@@ -21,7 +21,7 @@ const MINUTE_MS: u64 = 60_000;
 
 /// What is known of an outstation.
 #[derive(Drop)]
-pub struct OutstationCard {
+pub struct OutstationRecord {
     pub figures: Mutex<OutstationFigures>,
     /// Which of its points were told, where anybody may ask for that.
     points: Option<Mutex<Points>>,
@@ -29,13 +29,13 @@ pub struct OutstationCard {
     way: Way,
 }
 
-impl OutstationCard {
-    /// Nothing is known of an outstation that is reached this way, and has these points.
-    fn new(plan: &Plan, points: Option<Points>) -> OutstationCard {
-        OutstationCard {
-            figures: Mutex::new(OutstationFigures::new(calm_ms(plan.silence_ms()))),
+impl OutstationRecord {
+    /// Nothing is known of an outstation that is reached over this link, and has these points.
+    fn new(link: &OutstationLink, points: Option<Points>) -> OutstationRecord {
+        OutstationRecord {
+            figures: Mutex::new(OutstationFigures::new(calm_ms(link.silence_ms()))),
             points: points.map(|points| Mutex::new(points)),
-            way: plan.way(),
+            way: link.way(),
         }
     }
 
@@ -86,59 +86,59 @@ impl OutstationCard {
     }
 }
 
-/// What is known of a place for clients.
+/// What is known of a slot for clients.
 #[derive(Drop)]
-pub struct ClientCard {
+pub struct ClientRecord {
     pub figures: Mutex<ClientFigures>,
     /// Why commands of it were refused, and orders of it ended, of which it wasn't told.
     pub reasons: Mutex<Reasons>,
-    hold: Mutex<Hold>,
+    connection: Mutex<ClientConnection>,
 }
 
-impl ClientCard {
-    /// A client is given the place.
-    pub fn seat<R: Wait>(&self, rt: &R, hold: Hold) {
+impl ClientRecord {
+    /// A client is given the slot.
+    pub fn assign<R: Wait>(&self, rt: &R, connection: ClientConnection) {
         self.reasons.lock(rt).clear();
-        *self.hold.lock(rt) = hold;
+        *self.connection.lock(rt) = connection;
     }
 
-    /// Nobody has the place any more.
+    /// Nobody has the slot any more.
     pub fn free<R: Wait>(&self, rt: &R) {
-        *self.hold.lock(rt) = Hold::nobody();
+        *self.connection.lock(rt) = ClientConnection::none();
     }
 
-    /// The client asks for data transfer: it keeps its place from now on.
-    pub fn keeps_place<R: Wait>(&self, rt: &R) {
-        self.hold.lock(rt).start();
+    /// The client asks for data transfer: it keeps its slot from now on.
+    pub fn keeps_slot<R: Wait>(&self, rt: &R) {
+        self.connection.lock(rt).start();
     }
 
     /// Whether the client was made to leave.
     pub fn leaves<R: Wait>(&self, rt: &R) -> bool {
-        self.hold.lock(rt).leaves()
+        self.connection.lock(rt).leaves()
     }
 
     /// A tick closed the client's connection, since t1 had expired.
     pub fn expires<R: Wait>(&self, rt: &R) {
-        self.hold.lock(rt).expire();
+        self.connection.lock(rt).expire();
     }
 
     /// Whether a tick closed the client's connection.
     pub fn has_expired<R: Wait>(&self, rt: &R) -> bool {
-        self.hold.lock(rt).has_expired()
+        self.connection.lock(rt).has_expired()
     }
 
     /// An APDU of the client was taken at a moment, which confirms a test or doesn't.
     pub fn hears<R: Wait>(&self, rt: &R, moment: u64, confirms_test: bool) {
-        self.hold.lock(rt).hear(moment, confirms_test);
+        self.connection.lock(rt).hear(moment, confirms_test);
     }
 
     /// The client was sent a TESTFR act at a moment.
     pub fn tests<R: Wait>(&self, rt: &R, moment: u64) {
-        self.hold.lock(rt).test(moment);
+        self.connection.lock(rt).test(moment);
     }
 
     /// How many had connected before the client, where it may have to give way to one from this address
-    /// (`Hold::gives_way`).
+    /// (`ClientConnection::gives_way`).
     fn gives_way<R: Wait>(
         &self,
         rt: &R,
@@ -146,25 +146,27 @@ impl ClientCard {
         moment: u64,
         silence_ms: u64,
     ) -> Option<u64> {
-        self.hold.lock(rt).gives_way(address, moment, silence_ms)
+        self.connection
+            .lock(rt)
+            .gives_way(address, moment, silence_ms)
     }
 
     /// The client is made to leave.
     fn dismiss<R: Wait>(&self, rt: &R) {
-        self.hold.lock(rt).leave();
+        self.connection.lock(rt).leave();
     }
 
     /// The client is made to leave, if it still may have to give way; whether it is.
     fn make_room<R: Wait>(&self, rt: &R, address: IpAddr, moment: u64, silence_ms: u64) -> bool {
-        let mut hold = self.hold.lock(rt);
-        let gives_way = hold.gives_way(address, moment, silence_ms).is_some();
+        let mut connection = self.connection.lock(rt);
+        let gives_way = connection.gives_way(address, moment, silence_ms).is_some();
         if gives_way {
-            hold.leave();
+            connection.leave();
         }
         gives_way
     }
 
-    /// So many observations were dropped at this place by now. Where that is to be told, where its client connects
+    /// So many observations were dropped at this slot by now. Where that is to be told, where its client connects
     /// from, and how many weren't told yet.
     pub fn dropped<R: Wait>(&self, rt: &R, wall: u64, total: u64) -> Option<(SocketAddr, u64)> {
         let mut figures = self.figures.lock(rt);
@@ -180,13 +182,13 @@ impl ClientCard {
 
     /// The client has started data transfer; where it connects from, if that is to be told.
     pub fn starts<R: Wait>(&self, rt: &R, wall: u64) -> Option<SocketAddr> {
-        self.hold.lock(rt).start();
+        self.connection.lock(rt).start();
         self.transfers(rt, wall, true)
     }
 
     /// The client has stopped data transfer at a moment; where it connects from, if that is to be told.
     pub fn stops<R: Wait>(&self, rt: &R, wall: u64, moment: u64) -> Option<SocketAddr> {
-        self.hold.lock(rt).stop(moment);
+        self.connection.lock(rt).stop(moment);
         self.transfers(rt, wall, false)
     }
 
@@ -196,7 +198,7 @@ impl ClientCard {
         self.figures.lock(rt).transfers(wall, starts)
     }
 
-    /// A look, a second behind the one before, finds that so many observations were dropped at this place by now.
+    /// A look, a second behind the one before, finds that so many observations were dropped at this slot by now.
     pub fn look<R: Wait>(&self, rt: &R, dropped: u64) {
         self.figures.lock(rt).look(dropped);
     }
@@ -204,40 +206,40 @@ impl ClientCard {
 
 /// What is known of all.
 #[derive(Drop)]
-pub struct Board {
-    outstations: Vec<OutstationCard>,
-    clients: Vec<ClientCard>,
+pub struct Peers {
+    outstations: Vec<OutstationRecord>,
+    clients: Vec<ClientRecord>,
     /// What is told of the clients of each address.
     pub callers: Mutex<Callers>,
     /// Of which steps it was told.
     pub sequence: Sequence,
     /// When the core made its last tick.
-    pub pulse: Pulse,
+    pub last_tick: LastTick,
     /// How many connections weren't allowed.
     not_allowed: AtomicU64,
     /// For how many milliseconds nothing comes from a client before it is tested (t3).
     silence_ms: u64,
 }
 
-impl Board {
-    /// Nothing is known at a moment of the outstations that are reached on these ways, and of so many clients. Their points are
-    /// known where that is shown.
+impl Peers {
+    /// Nothing is known at a moment of the outstations that are reached over these links, and of so many clients. Their points
+    /// are known where that is shown.
     pub fn new(
         alloc: Global,
         settings: &Settings,
-        plans: &[Plan],
+        links: &[OutstationLink],
         clients: u8,
         is_shown: bool,
         moment: u64,
-    ) -> Result<Board, Memory> {
+    ) -> Result<Peers, Memory> {
         let (t1_ms, t3_ms) = client_times(settings);
         let callers = Callers::new(alloc, calm_ms(t3_ms.saturating_add(t1_ms)));
-        Ok(Board {
-            outstations: outstation_cards(alloc, settings, plans, is_shown)?,
-            clients: client_cards(alloc, clients)?,
+        Ok(Peers {
+            outstations: outstation_records(alloc, settings, links, is_shown)?,
+            clients: client_records(alloc, clients)?,
             callers: Mutex::new(callers),
-            sequence: Sequence::new(alloc, plans.len(), usize::from(clients))?,
-            pulse: Pulse::new(moment),
+            sequence: Sequence::new(alloc, links.len(), usize::from(clients))?,
+            last_tick: LastTick::new(moment),
             not_allowed: AtomicU64::new(0),
             silence_ms: t3_ms,
         })
@@ -254,46 +256,46 @@ impl Board {
     }
 
     /// The outstations, by their positions.
-    pub fn outstations(&self) -> &[OutstationCard] {
+    pub fn outstations(&self) -> &[OutstationRecord] {
         &self.outstations
     }
 
-    /// The places for clients, by their positions.
-    pub fn clients(&self) -> &[ClientCard] {
+    /// The slots for clients, by their positions.
+    pub fn clients(&self) -> &[ClientRecord] {
         &self.clients
     }
 
     /// An outstation.
-    pub fn outstation(&self, outstation: u8) -> Option<&OutstationCard> {
+    pub fn outstation(&self, outstation: u8) -> Option<&OutstationRecord> {
         self.outstations.get(usize::from(outstation))
     }
 
-    /// A place for clients.
-    pub fn client(&self, client: u8) -> Option<&ClientCard> {
+    /// A slot for clients.
+    pub fn client(&self, client: u8) -> Option<&ClientRecord> {
         self.clients.get(usize::from(client))
     }
 
     /// All clients are made to leave.
     pub fn dismiss_all<R: Wait>(&self, rt: &R) {
-        for card in &self.clients {
-            card.dismiss(rt);
+        for record in &self.clients {
+            record.dismiss(rt);
         }
     }
 
     /// Of the clients from an address that may have to give way at a moment, the one that connected first is made to
-    /// leave its place; whether one is.
+    /// leave its slot; whether one is.
     pub fn make_room<R: Wait>(&self, rt: &R, address: IpAddr, moment: u64) -> bool {
-        let mut oldest: Option<(u64, &ClientCard)> = None;
-        for card in &self.clients {
-            if let Some(order) = card.gives_way(rt, address, moment, self.silence_ms) {
+        let mut oldest: Option<(u64, &ClientRecord)> = None;
+        for record in &self.clients {
+            if let Some(order) = record.gives_way(rt, address, moment, self.silence_ms) {
                 match oldest {
                     Some((before, _)) if before < order => {}
-                    _ => oldest = Some((order, card)),
+                    _ => oldest = Some((order, record)),
                 }
             }
         }
         match oldest {
-            Some((_, card)) => card.make_room(rt, address, moment, self.silence_ms),
+            Some((_, record)) => record.make_room(rt, address, moment, self.silence_ms),
             None => false,
         }
     }
@@ -312,34 +314,34 @@ fn client_times(settings: &Settings) -> (u64, u64) {
     (u64::from(station.t1_ms), u64::from(station.t3_ms))
 }
 
-/// The outstations that are reached on these ways, of which nothing is known.
-fn outstation_cards(
+/// The outstations that are reached over these links, of which nothing is known.
+fn outstation_records(
     alloc: Global,
     settings: &Settings,
-    plans: &[Plan],
+    links: &[OutstationLink],
     is_shown: bool,
-) -> Result<Vec<OutstationCard>, Memory> {
-    let mut cards = Vec::with_capacity(alloc, plans.len())?;
-    for (position, plan) in plans.iter().enumerate() {
+) -> Result<Vec<OutstationRecord>, Memory> {
+    let mut records = Vec::with_capacity(alloc, links.len())?;
+    for (position, link) in links.iter().enumerate() {
         let points = if is_shown {
             Some(Points::of(alloc, settings, position)?)
         } else {
             None
         };
-        cards.push(OutstationCard::new(plan, points))?;
+        records.push(OutstationRecord::new(link, points))?;
     }
-    Ok(cards)
+    Ok(records)
 }
 
-/// So many places of which nothing is known.
-fn client_cards(alloc: Global, count: u8) -> Result<Vec<ClientCard>, Memory> {
-    let mut cards = Vec::with_capacity(alloc, usize::from(count))?;
+/// So many slots of which nothing is known.
+fn client_records(alloc: Global, count: u8) -> Result<Vec<ClientRecord>, Memory> {
+    let mut records = Vec::with_capacity(alloc, usize::from(count))?;
     for _ in 0..count {
-        cards.push(ClientCard {
+        records.push(ClientRecord {
             figures: Mutex::new(ClientFigures::new()),
             reasons: Mutex::new(Reasons::new()),
-            hold: Mutex::new(Hold::nobody()),
+            connection: Mutex::new(ClientConnection::none()),
         })?;
     }
-    Ok(cards)
+    Ok(records)
 }

@@ -1,12 +1,12 @@
-//! Where clients come in.
+//! What accepts clients.
 
 use crate::network::Network;
 use std::io::Stdin;
 use std::net::{IpAddr, TcpListener};
 
-/// Where clients come in: which of them do, how many, and until when.
+/// What accepts clients: which of them, how many, and until when.
 #[derive(Clone, Copy)]
-pub struct Door<'a> {
+pub struct Acceptor<'a> {
     /// Where they connect.
     pub listener: &'a TcpListener,
     /// How many are served, if that is bounded.
@@ -17,9 +17,9 @@ pub struct Door<'a> {
     pub until_eof: Option<Stdin>,
 }
 
-impl<'a> Door<'a> {
+impl<'a> Acceptor<'a> {
     /// Whether a client may come from an address.
-    pub fn lets_in(&self, address: IpAddr) -> bool {
+    pub fn allows(&self, address: IpAddr) -> bool {
         self.allow.is_empty() || self.allow.iter().any(|network| network.has(address))
     }
 }

@@ -6,7 +6,7 @@ use std::sync::Wait;
 use std::thread::Threads;
 
 /// A system with sockets, threads, waiting, a clock, and standard error.
-pub trait Host: Net<Listener = TcpListener, Stream = TcpStream>
+pub trait System: Net<Listener = TcpListener, Stream = TcpStream>
     + Threads
     + Wait
     + Clock
@@ -15,4 +15,4 @@ pub trait Host: Net<Listener = TcpListener, Stream = TcpStream>
 
 impl<
     R: Net<Listener = TcpListener, Stream = TcpStream> + Threads + Wait + Clock + Eprint + Sync,
-> Host for R {}
+> System for R {}

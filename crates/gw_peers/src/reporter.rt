@@ -1,6 +1,6 @@
 //! Where the server's threads tell what happens.
 
-use crate::board::Board;
+use crate::peers::Peers;
 use gw_clock::Clock;
 use gw_journal::{Journal, JournalEvent, Noticed};
 use std::alloc::Global;
@@ -8,15 +8,15 @@ use std::sync::Wait;
 
 /// What all of the server's threads work with: the system, its clock, what is known of each peer, and the journal.
 #[derive(Drop)]
-pub struct Desk<'a, R, C> {
+pub struct Reporter<'a, R, C> {
     pub alloc: Global,
     pub rt: &'a R,
     pub clock: &'a C,
-    pub board: &'a Board,
+    pub peers: &'a Peers,
     pub journal: &'a Journal,
 }
 
-impl<'a, R: Wait, C: Clock> Desk<'a, R, C> {
+impl<'a, R: Wait, C: Clock> Reporter<'a, R, C> {
     /// Tells an operator what happened just now.
     pub fn tell(&self, event: JournalEvent) {
         self.journal.tell(self.rt, self.clock.wall(), event);

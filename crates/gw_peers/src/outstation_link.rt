@@ -14,9 +14,9 @@ const LONGEST_CONNECTING_MS: u64 = 5000;
 /// at rest with many outstations takes more of a processor where it is shorter.
 const LONGEST_WAIT_MS: u64 = 4000;
 
-/// The way to an outstation.
+/// The link to an outstation.
 #[derive(Drop)]
-pub struct Plan {
+pub struct OutstationLink {
     /// Where it is reached: a host and a port.
     pub connect: String,
     /// The link address of the master.
@@ -38,7 +38,7 @@ fn milliseconds(duration: Duration) -> u64 {
     u64::try_from(duration.as_millis()).unwrap_or(u64::MAX)
 }
 
-impl Plan {
+impl OutstationLink {
     /// From which link address to which the outstation's frames go.
     pub fn way(&self) -> Way {
         Way {
@@ -97,16 +97,16 @@ impl Plan {
     }
 }
 
-/// The ways to the outstations of settings.
-pub fn plans_of(alloc: Global, settings: &Settings) -> Result<Vec<Plan>, Memory> {
+/// The links to the outstations of settings.
+pub fn links_of(alloc: Global, settings: &Settings) -> Result<Vec<OutstationLink>, Memory> {
     let own = settings.station().master_address;
-    let mut plans = Vec::with_capacity(alloc, settings.outstations().len())?;
+    let mut links = Vec::with_capacity(alloc, settings.outstations().len())?;
     for outstation in settings.outstations() {
         let poll = &outstation.poll;
         let silence = poll
             .poll_ms
             .saturating_add(poll.response_ms.saturating_mul(3));
-        plans.push(Plan {
+        links.push(OutstationLink {
             connect: outstation.connect.clone()?,
             own,
             peer: outstation.address,
@@ -116,5 +116,5 @@ pub fn plans_of(alloc: Global, settings: &Settings) -> Result<Vec<Plan>, Memory>
             response: Duration::from_millis(poll.response_ms),
         })?;
     }
-    Ok(plans)
+    Ok(links)
 }
