@@ -1,22 +1,14 @@
-//! Tests of the shared core, its recorder and the workers round it, through their public calls: that these end, what they hand
-//! over, and that they go on beside one another, of which no contract tells.
+//! Tests of the workers round the shared core, through their public calls: that these end, what they hand over, and that
+//! they go on beside one another, of which no contract tells.
 #![tactic(auto)]
 
 #[cfg(test)]
 mod checks;
 #[cfg(test)]
-mod conversations;
-#[cfg(test)]
 mod held;
 #[cfg(test)]
 mod kept;
 #[cfg(test)]
-mod recorder;
-#[cfg(test)]
 mod sent;
-#[cfg(test)]
-mod served;
-#[cfg(test)]
-mod telling;
 #[cfg(test)]
 mod workers;

@@ -11,7 +11,6 @@ use crate::held::{
 };
 use crate::kept::{check_client, check_outstations, is_answered_first};
 use crate::sent::{Taker, check_sent};
-use crate::telling::entries_since;
 use std::marker::Brand;
 use std::process::Abort;
 use std::rt::Clock as Sleeps;
@@ -21,7 +20,8 @@ use std::thread::{self, Threads};
 use test_tools::{
     Calls, Client, CloseFault, Course, FROM_CLIENT, Line, LineCourse, MASTER, Opened, Opening,
     Pass, Recorder, SOURCES, Sending, Sent, Shared, Still, TWO_OUTSTATIONS, TestCore, Turn,
-    WorkerEnd, client_writer, clock, open_line, outstation_writer, read_client, read_outstation,
+    WorkerEnd, client_writer, clock, entries_since, open_line, outstation_writer, read_client,
+    read_outstation,
 };
 
 /// How many calls the recorder keeps: more than the workers make.
@@ -346,7 +346,8 @@ fn refused<L: Course, R: Host>(rt: &R, shared: &Shared<L>, passes: Vec<Pass<L>>)
 
 /// All calls were kept, and the peers' workers took and gave what was stepped.
 fn check<R: Host>(rt: &R, recorder: &Recorder, taken: &AllTaken, total: u64) {
-    let entries = entries_since(rt, recorder, &[0; 9]);
+    let entries = entries_since(rt.alloc(), recorder, &[0; 9])
+        .expect(rt, "calls that are answered so again");
     same(rt, &(entries.len() as u64), &total);
     assert!(rt; is_answered_first(entries));
     check_outstations(rt, entries);

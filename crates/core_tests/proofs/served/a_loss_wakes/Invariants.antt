@@ -1,6 +1,6 @@
 -- The ledger and the history are those that were made for this core, the settings are its hub's, and anybody may make any call.
 use Rattle.gw_shared.specs.Roles.{anybody}
-use Rattle.thread_tests.proofs.served.a_loss_wakes.Given as goal
+use Rattle.core_tests.proofs.served.a_loss_wakes.Given as goal
 
 abbrev pub ghosts-lose-L-Ledger : goal.ghosts-lose-L-Ledger
 ghosts-lose-L-Ledger g a = record { name = a.opening.blank.name; parts = a.opening.blank.parts }

@@ -1,6 +1,6 @@
 -- The ledger and the history are those that were made for this core, the settings are its hub's, and anybody may make any call.
 use Rattle.gw_shared.specs.Roles.{anybody}
-use Rattle.thread_tests.proofs.conversations.as_one_thread.Given as goal
+use Rattle.core_tests.proofs.conversations.as_one_thread.Given as goal
 
 abbrev pub ghosts-converse-L-Ledger : goal.ghosts-converse-L-Ledger
 ghosts-converse-L-Ledger g a = record { name = a.opening.blank.name; parts = a.opening.blank.parts }

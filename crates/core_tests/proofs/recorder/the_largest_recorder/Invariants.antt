@@ -1,6 +1,6 @@
 -- The ledger and the history are those that were made for this core, the settings are its hub's, and anybody may make any call.
 use Rattle.gw_shared.specs.Roles.{anybody}
-use Rattle.thread_tests.proofs.recorder.the_largest_recorder.Given as goal
+use Rattle.core_tests.proofs.recorder.the_largest_recorder.Given as goal
 
 abbrev pub ghosts-fill-L-Ledger : goal.ghosts-fill-L-Ledger
 ghosts-fill-L-Ledger g a = record { name = a.opening.blank.name; parts = a.opening.blank.parts }

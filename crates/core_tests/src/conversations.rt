@@ -3,13 +3,14 @@
 ghost use Rattle.test_tools.specs.Opening.{IsFor};
 
 use crate::checks::{same, same_list};
-use crate::telling::{entries_since, push_call, push_entry};
+use crate::telling::{push_call, push_entry};
 use gw_map::DEFAULT_SETTINGS;
 use std::marker::Brand;
 use std::process::Abort;
 use std::sync::Wait;
 use test_tools::{
-    Answer, Course, Opening, Recorder, TestCore, Turn, replies_of_run, steps_of, text_of,
+    Answer, Course, Opening, Recorder, TestCore, Turn, entries_since, replies_of_run, steps_of,
+    text_of,
 };
 
 /// An unsolicited response that is repeated, and one that nobody asked for.
@@ -309,8 +310,10 @@ fn check_recorder<R: Abort + AllocGlobal>(
     lines: &str,
     answers: &[Answer],
 ) {
+    let entries = entries_since(rt.alloc(), recorder, &recording.counts)
+        .expect(rt, "calls that are answered so again");
     let mut kept = Vec::new(rt.alloc());
-    for entry in entries_since(rt, recorder, &recording.counts) {
+    for entry in entries {
         push_entry(rt, &mut kept, entry);
     }
     let made = text_of_calls(rt, recording, lines, answers);
