@@ -137,13 +137,14 @@ pub fn write_client<L: Course, S: Calls<L>, R: Wait, W: Outgoing, G: Gate>(
 pub fn read_outstation<
     L: Course,
     N: LineCourse,
+    S: Calls<L>,
     R: Wait + AllocGlobal,
     I: Incoming,
     W: Outgoing,
     G: Gate,
 >(
     rt: &R,
-    shared: &Shared<L>,
+    shared: &S,
     pass: Pass<L>,
     source: &Source,
     input: &mut I,

@@ -99,6 +99,42 @@ impl<'a, R: Clock> Held<'a, R> {
         }
         false
     }
+
+    /// A reader has decoded something. Whether it goes on in time.
+    fn decoded(&self, actor: usize) -> bool {
+        match actor {
+            OUTSTATION_0_READER => self.stands(&self.is_decoded),
+            CLIENT_1_READER => self.others_stand() && self.is_ticked(),
+            _ => true,
+        }
+    }
+
+    /// A reader has made a step. Whether it goes on in time.
+    fn stepped(&self, actor: usize) -> bool {
+        match actor {
+            CLIENT_0_READER => self.steps(&self.stepped_0, self.is_served_0),
+            CLIENT_1_READER => self.steps(&self.stepped_1, self.is_served_1),
+            _ => true,
+        }
+    }
+
+    /// An APDU of a client was stepped: after the last one its reader waits until the client is served. Whether it goes on in
+    /// time.
+    fn steps(&self, stepped: &AtomicU64, is_served: &AtomicBool) -> bool {
+        stepped.fetch_add(1, Ordering::SeqCst) != LAST || is_set(self.rt, is_served)
+    }
+
+    /// A worker is about to write. Whether it goes on in time.
+    fn writes(&self, actor: usize) -> bool {
+        match actor {
+            CLIENT_0_WRITER => self.stands(&self.is_answered),
+            OUTSTATION_0_WRITER => {
+                self.is_asked.store(true, Ordering::SeqCst);
+                true
+            }
+            _ => true,
+        }
+    }
 }
 
 impl<'a, R> Observer for Held<'a, R> {
@@ -128,23 +164,10 @@ impl<'a, R: Clock> Gate for Held<'a, R> {
         if self.is_late.load(Ordering::SeqCst) {
             return;
         }
-        let is_in_time = match (place, actor) {
-            (Place::Decoded, OUTSTATION_0_READER) => self.stands(&self.is_decoded),
-            (Place::BeforeWrite, CLIENT_0_WRITER) => self.stands(&self.is_answered),
-            (Place::Decoded, CLIENT_1_READER) => self.others_stand() && self.is_ticked(),
-            (Place::Stepped, CLIENT_0_READER)
-                if self.stepped_0.fetch_add(1, Ordering::SeqCst) == LAST => {
-                is_set(self.rt, self.is_served_0)
-            }
-            (Place::Stepped, CLIENT_1_READER)
-                if self.stepped_1.fetch_add(1, Ordering::SeqCst) == LAST => {
-                is_set(self.rt, self.is_served_1)
-            }
-            (Place::BeforeWrite, OUTSTATION_0_WRITER) => {
-                self.is_asked.store(true, Ordering::SeqCst);
-                return;
-            }
-            _ => return,
+        let is_in_time = match place {
+            Place::Decoded => self.decoded(actor),
+            Place::Stepped => self.stepped(actor),
+            Place::BeforeWrite => self.writes(actor),
         };
         if !is_in_time {
             self.is_late.store(true, Ordering::SeqCst);

@@ -2,11 +2,13 @@
 
 use crate::checks::same;
 use crate::held::{CLIENT_1_WRITER, OUTSTATION_0_READER, OUTSTATION_1_READER};
-use dnp_app::Response;
+use dnp_app::{KeptResponse, Response};
 use dnp_receive::responses_of;
+use gw_shared::ApduBuf;
+use gw_threads::apdu_in;
 use std::process::Abort;
 use std::sync::{Mutex, Wait};
-use test_tools::{Entry, Kept, MASTER, Reply, SOURCES, Source, has_termination};
+use test_tools::{Entry, Kept, MASTER, SOURCES, Source, has_termination};
 
 /// The actors that read what the outstations send.
 const READERS: &[usize; 2] = &[OUTSTATION_0_READER, OUTSTATION_1_READER];
@@ -35,16 +37,27 @@ pub fn check_outstations<R: Abort + AllocGlobal>(rt: &R, entries: &[Entry]) {
 fn are_stepped(entries: &[Entry], actor: usize, responses: &[Response]) -> bool {
     let mut rest = responses;
     for entry in entries {
-        if let (true, Kept::Fragment { response, .. }) = (entry.actor == actor, entry.step.kept()) {
+        if let Some(kept) = fragment_by(entry, actor) {
             match rest.split_first() {
-                Some((first, others))
-                    if first.octets() == response.octets()
-                        && first.outstation() == response.outstation() => rest = others,
+                Some((first, others)) if is_same(first, kept) => rest = others,
                 _ => return false,
             }
         }
     }
     rest.is_empty()
+}
+
+/// The fragment that a call is of, if an actor made it, and it is of one.
+fn fragment_by(entry: &Entry, actor: usize) -> Option<&KeptResponse> {
+    match entry.step.kept() {
+        Kept::Fragment { response, .. } if entry.actor == actor => Some(response),
+        _ => None,
+    }
+}
+
+/// Whether a response was kept.
+fn is_same(response: &Response, kept: &KeptResponse) -> bool {
+    response.octets() == kept.octets() && response.outstation() == kept.outstation()
 }
 
 /// A client took the very APDUs that its writer's pumps were answered with, among them an interrogation's termination.
@@ -66,7 +79,7 @@ pub fn check_client<R: Wait + Abort + AllocGlobal>(
 fn octets_given<R: Abort + AllocGlobal>(rt: &R, entries: &[Entry], actor: usize) -> Vec<u8> {
     let mut octets = Vec::new(rt.alloc());
     for entry in entries {
-        if let (true, Ok(Reply::Apdu(apdu))) = (entry.actor == actor, &entry.reply) {
+        if let Some(apdu) = apdu_for(entry, actor) {
             octets
                 .extend_from_slice(apdu.as_slice())
                 .expect(rt, "memory");
@@ -75,16 +88,26 @@ fn octets_given<R: Abort + AllocGlobal>(rt: &R, entries: &[Entry], actor: usize)
     octets
 }
 
+/// The APDU that a call is answered with, if an actor made it, and it is one.
+fn apdu_for(entry: &Entry, actor: usize) -> Option<ApduBuf> {
+    if entry.actor == actor {
+        apdu_in(entry.reply)
+    } else {
+        None
+    }
+}
+
 /// Whether the interrogation of client 1 was answered while the first response of outstation 0 was held before its
 /// step.
 pub fn is_answered_first(entries: &[Entry]) -> bool {
     for entry in entries {
-        match (entry.actor, entry.step.kept(), &entry.reply) {
-            (OUTSTATION_0_READER, Kept::Fragment { .. }, _) => return false,
-            (CLIENT_1_WRITER, _, Ok(Reply::Apdu(apdu))) if has_termination(apdu.as_slice()) => {
+        if fragment_by(entry, OUTSTATION_0_READER).is_some() {
+            return false;
+        }
+        if let Some(apdu) = apdu_for(entry, CLIENT_1_WRITER) {
+            if has_termination(apdu.as_slice()) {
                 return true;
             }
-            _ => {}
         }
     }
     false

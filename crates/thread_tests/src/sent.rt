@@ -75,17 +75,11 @@ impl Sent {
     /// What is owed for a call that a recorder has kept: for a response its confirmation, for a poll the request.
     fn add_owed<R: Abort>(&mut self, rt: &R, entry: &Entry) {
         match &entry.reply {
-            Ok(
-                Reply::Verdict(
-                    Verdict::Accepted {
-                        confirm: Some(octets),
-                        ..
-                    }
-                    | Verdict::Repeated {
-                        confirm: Some(octets),
-                    },
-                ),
-            ) => add(rt, &mut self.confirmations, octets),
+            Ok(Reply::Verdict(verdict)) => {
+                if let Some(octets) = confirmation_in(verdict) {
+                    add(rt, &mut self.confirmations, &octets);
+                }
+            }
             Ok(Reply::Request(request)) => add(rt, &mut self.requests, request.as_slice()),
             _ => {}
         }
@@ -106,6 +100,14 @@ impl Sent {
             add(rt, &mut self.requests, fragment);
         }
         segments.wrapping_add(1) % 64
+    }
+}
+
+/// The confirmation that a fragment is to have, if it is to have one.
+fn confirmation_in(verdict: &Verdict) -> Option<[u8; 2]> {
+    match verdict {
+        Verdict::Accepted { confirm, .. } | Verdict::Repeated { confirm } => *confirm,
+        Verdict::Ignored(_) => None,
     }
 }
 

@@ -11,15 +11,15 @@ use crate::held::{
 };
 use crate::kept::{check_client, check_outstations, is_answered_first};
 use crate::sent::{Taker, check_sent};
-use std::marker::Brand;
+use std::marker::{Brand, PhantomData};
 use std::process::Abort;
 use std::rt::Clock as Sleeps;
 use std::sync::atomic::{AtomicBool, AtomicU64, Ordering};
 use std::sync::{Mutex, Wait};
 use std::thread::{self, Threads};
 use test_tools::{
-    Calls, Client, CloseFault, Course, FROM_CLIENT, Line, LineCourse, MASTER, Opened, Opening,
-    Pass, Recorder, SOURCES, Sending, Sent, Shared, Still, TWO_OUTSTATIONS, TestCore, Turn,
+    Calls, Client, CloseFault, Course, Entry, FROM_CLIENT, Line, LineCourse, MASTER, Opened,
+    Opening, Pass, SOURCES, Sending, Sent, Shared, Still, TWO_OUTSTATIONS, TestCore, Turn,
     WorkerEnd, client_writer, clock, entries_since, open_line, outstation_writer, read_client,
     read_outstation,
 };
@@ -57,15 +57,16 @@ const WORKERS: &[(Role, WorkerEnd)] = &[
 
 /// What all workers share.
 #[derive(Drop)]
-struct Scene<'a, 'b, L: Course, M: LineCourse, N: LineCourse, R: Wait> {
+struct Scene<'a, 'b, L: Course, S: Calls<L>, M: LineCourse, N: LineCourse, R: Wait> {
     rt: &'a R,
-    shared: &'a Shared<L>,
+    shared: &'a S,
     gate: &'a Held<'a, R>,
     first: &'a Line<Taker<'b, R>, M>,
     second: &'a Line<Taker<'b, R>, N>,
     taken: &'a AllTaken,
     /// How many workers have not ended.
     at_work: AtomicU64,
+    of: PhantomData<L>,
     ghost roles_are: { L.roles ≡ anybody },
 }
 
@@ -128,7 +129,9 @@ fn work<L: Course + Send + Sync, R: Host>(rt: &R, opening: Opening)
     let passes = serve(rt, &shared, &taken, passes);
     let passes = check_refusal(rt, &shared, passes);
     let (total, recorder) = TestCore { shared, passes }.end(rt).expect(rt, "all passes");
-    check(rt, &recorder, &taken, total);
+    let entries = entries_since(rt.alloc(), &recorder, &[0; 9]).expect(rt, "calls answered alike");
+    same(rt, &(entries.len() as u64), &total);
+    check(rt, entries, &taken);
     drop(recorder);
 }
 
@@ -145,7 +148,7 @@ fn serve<L: Course + Send + Sync, R: Host>(
     let gate = Held::new(rt, &client_0.has_ended, &client_1.has_ended);
     let first = open_line().expect(rt, "a history");
     let second = open_line().expect(rt, "a history");
-    let passes = serve_on::<L, Brand, Brand, R>(rt, shared, taken, &gate, passes, first, second);
+    let passes = serve_on::<L, _, Brand, Brand, R>(rt, shared, taken, &gate, passes, first, second);
     assert!(rt;
         !gate.is_late.load(Ordering::SeqCst),
         "a worker was held for 10 seconds"
@@ -156,12 +159,13 @@ fn serve<L: Course + Send + Sync, R: Host>(
 /// The same, on lines with these histories.
 fn serve_on<
     L: Course + Send + Sync,
+    S: Calls<L> + Sync,
     M: LineCourse + Send + Sync,
     N: LineCourse + Send + Sync,
     R: Host,
 >(
     rt: &R,
-    shared: &Shared<L>,
+    shared: &S,
     taken: &AllTaken,
     gate: &Held<'_, R>,
     passes: Vec<Pass<L>>,
@@ -197,6 +201,7 @@ fn serve_on<
         second: &line_1,
         taken,
         at_work: AtomicU64::new(9),
+        of: PhantomData,
     };
     perform_all(&scene, passes)
 }
@@ -204,16 +209,17 @@ fn serve_on<
 /// Runs each worker in a thread of its own.
 fn perform_all<
     L: Course + Send + Sync,
+    S: Calls<L> + Sync,
     M: LineCourse + Send + Sync,
     N: LineCourse + Send + Sync,
     R: Host,
->(scene: &Scene<'_, '_, L, M, N, R>, passes: Vec<Pass<L>>) -> Vec<Pass<L>> {
+>(scene: &Scene<'_, '_, L, S, M, N, R>, passes: Vec<Pass<L>>) -> Vec<Pass<L>> {
     thread::map_vec(scene.rt, passes, &|pass| perform(scene, pass)).expect(scene.rt, "memory")
 }
 
 /// Works with a pass until the worker ends, as it is to end. The last one of the peers' workers asks the clock to end.
-fn perform<L: Course, M: LineCourse, N: LineCourse, R: Host>(
-    scene: &Scene<'_, '_, L, M, N, R>,
+fn perform<L: Course, S: Calls<L>, M: LineCourse, N: LineCourse, R: Host>(
+    scene: &Scene<'_, '_, L, S, M, N, R>,
     pass: Pass<L>,
 ) -> Pass<L> {
     let (role, wanted) = *WORKERS.get(pass.actor()).expect(scene.rt, "a worker");
@@ -229,8 +235,8 @@ fn perform<L: Course, M: LineCourse, N: LineCourse, R: Host>(
 }
 
 /// Works in a role.
-fn perform_as<L: Course, M: LineCourse, N: LineCourse, R: Host>(
-    scene: &Scene<'_, '_, L, M, N, R>,
+fn perform_as<L: Course, S: Calls<L>, M: LineCourse, N: LineCourse, R: Host>(
+    scene: &Scene<'_, '_, L, S, M, N, R>,
     role: Role,
     pass: Pass<L>,
 ) -> (Pass<L>, WorkerEnd) {
@@ -246,8 +252,8 @@ fn perform_as<L: Course, M: LineCourse, N: LineCourse, R: Host>(
     }
 }
 
-fn read_source<L: Course, M: LineCourse, N: LineCourse, R: Host>(
-    scene: &Scene<'_, '_, L, M, N, R>,
+fn read_source<L: Course, S: Calls<L>, M: LineCourse, N: LineCourse, R: Host>(
+    scene: &Scene<'_, '_, L, S, M, N, R>,
     outstation: u8,
     pass: Pass<L>,
 ) -> (Pass<L>, WorkerEnd) {
@@ -265,8 +271,8 @@ fn read_source<L: Course, M: LineCourse, N: LineCourse, R: Host>(
     }
 }
 
-fn write_outstation<L: Course, M: LineCourse, N: LineCourse, R: Host>(
-    scene: &Scene<'_, '_, L, M, N, R>,
+fn write_outstation<L: Course, S: Calls<L>, M: LineCourse, N: LineCourse, R: Host>(
+    scene: &Scene<'_, '_, L, S, M, N, R>,
     outstation: u8,
     pass: Pass<L>,
 ) -> (Pass<L>, WorkerEnd) {
@@ -278,8 +284,8 @@ fn write_outstation<L: Course, M: LineCourse, N: LineCourse, R: Host>(
 }
 
 #[tactic(auto, using(test_tools::proofs::Anybody::anybody_polls))]
-fn write_on<'b, L: Course, M: LineCourse, N: LineCourse, O: LineCourse, R: Host>(
-    scene: &Scene<'_, 'b, L, M, N, R>,
+fn write_on<'b, L: Course, S: Calls<L>, M: LineCourse, N: LineCourse, O: LineCourse, R: Host>(
+    scene: &Scene<'_, 'b, L, S, M, N, R>,
     outstation: u8,
     pass: Pass<L>,
     line: &Line<Taker<'b, R>, O>,
@@ -297,8 +303,8 @@ fn write_on<'b, L: Course, M: LineCourse, N: LineCourse, O: LineCourse, R: Host>
 }
 
 #[tactic(auto, using(test_tools::proofs::Anybody::anybody_pumps))]
-fn write_client<L: Course, M: LineCourse, N: LineCourse, R: Host>(
-    scene: &Scene<'_, '_, L, M, N, R>,
+fn write_client<L: Course, S: Calls<L>, M: LineCourse, N: LineCourse, R: Host>(
+    scene: &Scene<'_, '_, L, S, M, N, R>,
     client: u8,
     pass: Pass<L>,
 ) -> (Pass<L>, WorkerEnd) {
@@ -344,11 +350,8 @@ fn refused<L: Course, R: Host>(rt: &R, shared: &Shared<L>, passes: Vec<Pass<L>>)
     }
 }
 
-/// All calls were kept, and the peers' workers took and gave what was stepped.
-fn check<R: Host>(rt: &R, recorder: &Recorder, taken: &AllTaken, total: u64) {
-    let entries = entries_since(rt.alloc(), recorder, &[0; 9])
-        .expect(rt, "calls that are answered so again");
-    same(rt, &(entries.len() as u64), &total);
+/// The peers' workers took and gave what was stepped by these calls, which are all.
+fn check<R: Host>(rt: &R, entries: &[Entry], taken: &AllTaken) {
     assert!(rt; is_answered_first(entries));
     check_outstations(rt, entries);
     check_sent(rt, entries, &taken.outstations);
