@@ -9,7 +9,7 @@ use std::marker::Brand;
 use std::process::Abort;
 use std::sync::Wait;
 use test_tools::{
-    Answer, Course, Opening, Recorder, TestCore, Turn, entries_since, replies_of_run, steps_of,
+    Answer, Course, Entry, Opening, TestCore, Turn, entries_since, replies_of_run, steps_of,
     text_of,
 };
 
@@ -266,13 +266,20 @@ fn converse<L: Course, R: Wait + Abort + AllocGlobal>(
 )
     requires { IsFor L.name L.parts L.book L.setup L.roles 2 opening }
 {
-    let Recording { room, turns, .. } = conversation.recording;
+    let Recording {
+        room,
+        turns,
+        counts,
+        ..
+    } = conversation.recording;
     let mut core = TestCore::<L>::new(rt.alloc(), opening, 2, (*room).max(1)).expect(rt, "a core");
     let answers = core
         .answers_of(rt, turns, conversation.lines)
         .expect(rt, "answers");
     let (total, recorder) = core.end(rt).expect(rt, "all passes");
-    check(rt, conversation, &answers, total, &recorder);
+    same(rt, &total, &(answers.len() as u64));
+    let entries = entries_since(rt.alloc(), &recorder, counts).expect(rt, "calls answered alike");
+    check(rt, conversation, &answers, entries);
     drop(recorder);
 }
 
@@ -281,10 +288,8 @@ fn check<R: Abort + AllocGlobal>(
     rt: &R,
     conversation: &Conversation,
     answers: &[Answer],
-    total: u64,
-    recorder: &Recorder,
+    entries: &[Entry],
 ) {
-    same(rt, &total, &(answers.len() as u64));
     let Conversation {
         lines,
         replies,
@@ -293,7 +298,7 @@ fn check<R: Abort + AllocGlobal>(
     let text = text_of(rt.alloc(), answers).expect(rt, "memory");
     same_list(rt, text.as_slice(), replies.as_bytes());
     check_run(rt, lines, replies);
-    check_recorder(rt, recorder, recording, lines, answers);
+    check_entries(rt, entries, recording, lines, answers);
 }
 
 /// `Hub::run` gives these replies to the steps of these lines.
@@ -302,16 +307,14 @@ fn check_run<R: Abort + AllocGlobal>(rt: &R, lines: &str, replies: &str) {
     same_list(rt, given.as_slice(), replies.as_bytes());
 }
 
-/// The recorder has kept the calls that were made, but for those that it has forgotten.
-fn check_recorder<R: Abort + AllocGlobal>(
+/// A recorder has kept as these entries the calls that were made, but for those that it has forgotten.
+fn check_entries<R: Abort + AllocGlobal>(
     rt: &R,
-    recorder: &Recorder,
+    entries: &[Entry],
     recording: &Recording,
     lines: &str,
     answers: &[Answer],
 ) {
-    let entries = entries_since(rt.alloc(), recorder, &recording.counts)
-        .expect(rt, "calls that are answered so again");
     let mut kept = Vec::new(rt.alloc());
     for entry in entries {
         push_entry(rt, &mut kept, entry);

@@ -34,8 +34,8 @@ fn make<L: Course, R: Wait + Abort + AllocGlobal>(rt: &R, core: &mut TestCore<L>
 }
 
 /// How often the bell of client 0 was rung.
-fn rung<L: Course, R: Abort>(rt: &R, core: &TestCore<L>) -> u64 {
-    core.shared.client_bell(0).expect(rt, "a bell").rung()
+fn rung<L: Course, S: Calls<L>, R: Abort>(rt: &R, shared: &S) -> u64 {
+    shared.client_bell(0).expect(rt, "a bell").rung()
 }
 
 /// The loss of an outstation wakes the writer of a client at once, which sleeps.
@@ -51,9 +51,10 @@ fn lose<L: Course, R: Wait + Abort + AllocGlobal>(rt: &R, opening: Opening)
     let mut core = TestCore::<L>::new(rt.alloc(), opening, 1, 64).expect(rt, "a core");
     let turns: [Turn; 7] = [(0, 0); 7];
     assert!(rt; core.answers_so(rt, &turns, TOLD, TOLD_REPLIES));
-    let before = rung(rt, &core);
+    let before = rung::<L, _, _>(rt, &core.shared);
     make(rt, &mut core, "down 0 1");
-    same(rt, &rung(rt, &core).wrapping_sub(before), &1);
+    let after = rung::<L, _, _>(rt, &core.shared);
+    same(rt, &after.wrapping_sub(before), &1);
     core.total(rt).expect(rt, "all passes");
 }
 
@@ -130,18 +131,18 @@ fn fill<L: Course, R: Wait + Abort + AllocGlobal>(rt: &R, opening: Opening)
     }
     give(rt, &mut core);
     make(rt, &mut core, FROM_0);
-    check_room(rt, &core, &BEFORE);
+    check_room::<L, _, _>(rt, &core.shared, &BEFORE);
     make(rt, &mut core, FROM_1);
-    check_room(rt, &core, &BEHIND);
+    check_room::<L, _, _>(rt, &core.shared, &BEHIND);
     give(rt, &mut core);
-    check_room(rt, &core, &AT_LAST);
+    check_room::<L, _, _>(rt, &core.shared, &AT_LAST);
     core.total(rt).expect(rt, "all passes");
 }
 
 /// Asks for room for so many observations of outstations, at moments; each is answered so.
-fn check_room<L: Course, R: Wait + Abort>(
+fn check_room<L: Course, S: Calls<L>, R: Wait + Abort>(
     rt: &R,
-    core: &TestCore<L>,
+    shared: &S,
     asked: &[(u8, u64, u64, bool)],
 ) {
     for (outstation, size, moment, is_outrun) in asked {
@@ -151,7 +152,7 @@ fn check_room<L: Course, R: Wait + Abort>(
             waited: 0,
             patience: 1000,
         };
-        same(rt, &core.shared.is_outrun(rt, load, *moment), is_outrun);
+        same(rt, &shared.is_outrun(rt, load, *moment), is_outrun);
     }
 }
 
