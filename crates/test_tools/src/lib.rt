@@ -16,9 +16,9 @@ pub use gw_capture::{has_line, push_reply, push_step};
 pub use gw_ends::open_line;
 pub use gw_hub::{Counts, Hub, Machine};
 pub use gw_readers::{
-    Arrival, Batch, Calls, CloseFault, Course, Entry, Gate, Incoming, Kept, Line, LineCourse, Load,
-    OpenGate, Opened, Outgoing, Pass, Place, Put, Reply, Sending, Step, StepFault, Unwritten, Why,
-    WorkerEnd, client_writer, clock, outstation_writer, put_out,
+    Arrival, Batch, Calls, Course, Entry, Gate, Incoming, Kept, Line, LineCourse, Load, OpenGate,
+    Opened, Outgoing, Pass, Place, Put, Reply, Sending, Step, StepFault, Unwritten, Why, WorkerEnd,
+    client_writer, clock, outstation_writer, put_out,
 };
 pub use gw_steps::Verdict;
 pub use machine_source::MachineSource;

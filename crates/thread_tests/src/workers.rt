@@ -18,10 +18,9 @@ use std::sync::atomic::{AtomicBool, AtomicU64, Ordering};
 use std::sync::{Mutex, Wait};
 use std::thread::{self, Threads};
 use test_tools::{
-    Calls, Client, CloseFault, Course, Entry, FROM_CLIENT, Line, LineCourse, MASTER, Opened,
-    Opening, Pass, SOURCES, Sending, Sent, Shared, Still, TWO_OUTSTATIONS, TestCore, Turn,
-    WorkerEnd, client_writer, clock, entries_since, open_line, outstation_writer, read_client,
-    read_outstation,
+    Calls, Client, Course, Entry, FROM_CLIENT, Line, LineCourse, MASTER, Opened, Opening, Pass,
+    SOURCES, Sending, Sent, Still, TWO_OUTSTATIONS, TestCore, Turn, WorkerEnd, client_writer, clock,
+    entries_since, open_line, outstation_writer, read_client, read_outstation,
 };
 
 /// How many calls the recorder keeps: more than the workers make.
@@ -127,7 +126,6 @@ fn work<L: Course + Send + Sync, R: Host>(rt: &R, opening: Opening)
     };
     let TestCore { shared, passes } = core;
     let passes = serve(rt, &shared, &taken, passes);
-    let passes = check_refusal(rt, &shared, passes);
     let (total, recorder) = TestCore { shared, passes }.end(rt).expect(rt, "all passes");
     let entries = entries_since(rt.alloc(), &recorder, &[0; 9]).expect(rt, "calls answered alike");
     same(rt, &(entries.len() as u64), &total);
@@ -136,9 +134,9 @@ fn work<L: Course + Send + Sync, R: Host>(rt: &R, opening: Opening)
 }
 
 /// Serves the peers with these passes, which are those that come back. None of the held workers is held for too long.
-fn serve<L: Course + Send + Sync, R: Host>(
+fn serve<L: Course + Send + Sync, S: Calls<L> + Sync, R: Host>(
     rt: &R,
-    shared: &Shared<L>,
+    shared: &S,
     taken: &AllTaken,
     passes: Vec<Pass<L>>,
 ) -> Vec<Pass<L>>
@@ -148,7 +146,7 @@ fn serve<L: Course + Send + Sync, R: Host>(
     let gate = Held::new(rt, &client_0.has_ended, &client_1.has_ended);
     let first = open_line().expect(rt, "a history");
     let second = open_line().expect(rt, "a history");
-    let passes = serve_on::<L, _, Brand, Brand, R>(rt, shared, taken, &gate, passes, first, second);
+    let passes = serve_on::<L, S, Brand, Brand, R>(rt, shared, taken, &gate, passes, first, second);
     assert!(rt;
         !gate.is_late.load(Ordering::SeqCst),
         "a worker was held for 10 seconds"
@@ -326,28 +324,6 @@ fn write_client<L: Course, S: Calls<L>, M: LineCourse, N: LineCourse, R: Host>(
     let Client { octets, .. } = writer;
     *taken.octets.lock(scene.rt) = octets;
     ended
-}
-
-/// The core isn't closed with a pass missing, which gives the others back. Gives all.
-fn check_refusal<L: Course, R: Host>(
-    rt: &R,
-    shared: &Shared<L>,
-    passes: Vec<Pass<L>>,
-) -> Vec<Pass<L>> {
-    let mut passes = passes;
-    let missing = passes.pop().expect(rt, "a pass");
-    let mut passes = refused(rt, shared, passes);
-    same(rt, &passes.len(), &8);
-    passes.push(missing).expect(rt, "memory");
-    passes
-}
-
-/// The passes that are given back where one is missing.
-fn refused<L: Course, R: Host>(rt: &R, shared: &Shared<L>, passes: Vec<Pass<L>>) -> Vec<Pass<L>> {
-    match shared.close(rt, passes) {
-        Ok(_) => rt.panic("closed with a pass missing"),
-        Err((CloseFault::Missing, passes)) => passes,
-    }
 }
 
 /// The peers' workers took and gave what was stepped by these calls, which are all.
