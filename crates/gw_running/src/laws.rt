@@ -10,13 +10,12 @@ ghost use Rattle.gw_threads.specs.Sends.{SendsAllGiven};
 ghost use Rattle.gw_running.specs.Handed.{HandsOver};
 ghost use Rattle.gw_running.specs.Kept.{IsKeptRun, IsPromised, KeepsAll};
 
-use gw_hub::Hub;
-use gw_shared::{CloseFault, Closed, Core, Course, Pass, Shared};
+use gw_shared::{CloseFault, Closed, Core, Course, Machine, Pass, Shared};
 use std::sync::Wait;
 
-/// The hub under the lock is the state after the one history of its calls, and at each place of that history all
+/// The machine under the lock is the state after the one history of its calls, and at each place of that history all
 /// promises hold. It does nothing.
-pub fn core_keeps_promises<L: Course>(core: &Core<L, Hub>)
+pub fn core_keeps_promises<L: Course, M: Machine>(core: &Core<L, M>)
     ensures { IsPromised L.setup core.now.hub core.now.past core.now.made }
 {
     core.attest();
@@ -38,10 +37,10 @@ pub fn orders_go_out_once()
         → HandsOver setup outstation mine after front }
 {}
 
-/// Ends the counting on a shared hub (`Shared::close`): all promises were kept at each place of the one history of the
+/// Ends the counting on a shared machine (`Shared::close`): all promises were kept at each place of the one history of the
 /// calls that were counted.
-pub fn close<L: Course, R: Wait>(
-    shared: &Shared<L, Hub>,
+pub fn close<L: Course, M: Machine, R: Wait>(
+    shared: &Shared<L, M>,
     rt: &R,
     passes: Vec<Pass<L>>,
 ) -> Result<Closed, (CloseFault, Vec<Pass<L>>)>

@@ -16,7 +16,7 @@ use gw_map::Settings;
 use gw_model::{CLIENTS, Memory};
 use gw_peers::{OutstationLink, Peers, Reporter, links_of};
 use gw_running::close;
-use gw_shared::{Made, Opened, open_course};
+use gw_shared::{Machine, Made, Opened, open_course};
 use gw_watch::{Identity, StatusSource, Watched};
 use std::alloc::Global;
 use std::marker::Brand;
@@ -114,12 +114,12 @@ pub fn serve_as<R: System, C: Clock + Sync, G: Gate + Sync>(
         peers: &peers,
         journal,
     };
-    let opening = Opening::of(alloc, settings, source.outstations())?;
+    let opening = opening_of(alloc, settings, source.outstations())?;
     let blank = Blank::new(opening.actors as u64);
     let Some(history) = open_course() else {
         return Err(Memory);
     };
-    serve_with::<Brand, R, C, G>(&reporter, &source, blank, history, opening, gate)
+    serve_with::<Brand, Hub, R, C, G>(&reporter, &source, blank, history, opening, gate)
 }
 
 /// The links to the outstations, and what is known of each of them and of each client, at a moment; with the points where
@@ -135,41 +135,45 @@ fn links_and_peers(
     Ok((links, peers))
 }
 
-/// What a shared core is made of.
+/// What a shared core is made of. The functions below know the hub as a `Machine` alone, so they are proved without its parts.
 #[derive(Drop)]
-struct Opening {
-    hub: Hub,
+struct Opening<M: Machine> {
+    machine: M,
     outstations: u8,
     actors: usize,
     capacity: usize,
 }
 
-impl Opening {
-    /// That of settings, with so many outstations.
-    fn of(alloc: Global, settings: Settings, outstations: u8) -> Result<Opening, Memory>
-        ensures some { IfOk result (λ opening. 0 < opening.capacity) }
-        ensures actors { IfOk result (λ opening. opening.actors ≡ actors_of opening.outstations) }
-        ensures first { IfOk result (λ opening. IsFirst settings opening.hub) }
-    {
-        let capacity = (settings.station().recorder as usize).max(1);
-        let actors = 2 * (usize::from(outstations) + usize::from(CLIENTS)) + 1;
-        let hub = Hub::new(alloc, settings)?;
-        Ok(Opening {
-            hub,
-            outstations,
-            actors,
-            capacity,
-        })
-    }
+/// That of settings, with so many outstations.
+fn opening_of(alloc: Global, settings: Settings, outstations: u8) -> Result<Opening<Hub>, Memory>
+    ensures some { IfOk result (λ opening. 0 < opening.capacity) }
+    ensures actors { IfOk result (λ opening. opening.actors ≡ actors_of opening.outstations) }
+    ensures first { IfOk result (λ opening. IsFirst settings opening.machine) }
+{
+    let capacity = (settings.station().recorder as usize).max(1);
+    let actors = 2 * (usize::from(outstations) + usize::from(CLIENTS)) + 1;
+    let machine = Hub::new(alloc, settings)?;
+    Ok(Opening {
+        machine,
+        outstations,
+        actors,
+        capacity,
+    })
 }
 
 /// The same on a ledger of its own.
-fn serve_with<L: Course + Send + Sync, R: System, C: Clock + Sync, G: Gate + Sync>(
+fn serve_with<
+    L: Course + Send + Sync,
+    M: Machine + Send + Sync,
+    R: System,
+    C: Clock + Sync,
+    G: Gate + Sync,
+>(
     reporter: &Reporter<'_, R, C>,
     source: &StatusSource<'_>,
     blank: Blank,
     history: Opened<Made>,
-    opening: Opening,
+    opening: Opening<M>,
     gate: &G,
 ) -> Result<Closed, Memory>
     requires book { history.seen.book ≡ L.book }
@@ -177,21 +181,21 @@ fn serve_with<L: Course + Send + Sync, R: System, C: Clock + Sync, G: Gate + Syn
     requires parts { (blank.parts ≡ L.parts) × (blank.parts ≡ opening.actors) }
     requires actors { opening.actors ≡ actors_of opening.outstations }
     requires some { 0 < opening.capacity }
-    requires first { IsFirst L.setup opening.hub }
+    requires first { IsFirst L.setup (M.seen opening.machine) }
     requires roles { L.roles ≡ roles_of opening.outstations }
     ensures { IfOk result (λ closed. IsKeptRun L.setup closed.total) }
 {
     let Opening {
-        hub,
+        machine,
         outstations,
         actors,
         capacity,
     } = opening;
-    let (shared, passes) = Shared::<L, Hub>::new(
+    let (shared, passes) = Shared::<L, M>::new(
         reporter.alloc,
         blank,
         history,
-        hub,
+        machine,
         actors,
         capacity,
     )?;
@@ -205,8 +209,14 @@ fn serve_with<L: Course + Send + Sync, R: System, C: Clock + Sync, G: Gate + Syn
 }
 
 /// Serves with these passes, which come back and are counted together.
-fn serve_in<L: Course + Send + Sync, R: System, C: Clock + Sync, G: Gate + Sync>(
-    server: &Server<'_, Shared<L, Hub>, R, C, G>,
+fn serve_in<
+    L: Course + Send + Sync,
+    M: Machine + Send + Sync,
+    R: System,
+    C: Clock + Sync,
+    G: Gate + Sync,
+>(
+    server: &Server<'_, Shared<L, M>, R, C, G>,
     source: &StatusSource<'_>,
     outstations: u8,
     passes: Vec<Pass<L>>,

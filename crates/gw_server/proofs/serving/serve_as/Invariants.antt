@@ -9,4 +9,4 @@ abbrev pub ghosts-serve_with-L-Naming : goal.ghosts-serve_with-L-Naming
 ghosts-serve_with-L-Naming g a = record { book = a.history.seen.book }
 
 abbrev pub ghosts-serve_with-L-Course : goal.ghosts-serve_with-L-Course
-ghosts-serve_with-L-Course g a = record { setup = a.opening.hub.setup; roles = roles_of a.opening.outstations }
+ghosts-serve_with-L-Course g a = record { setup = a.opening.machine.setup; roles = roles_of a.opening.outstations }
