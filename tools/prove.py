@@ -155,7 +155,8 @@ def prove_in(place):
             status = follow(process, course, log)
     built = place / "crates" / TOP / "out" / TOP
     if status or not built.exists():
-        tell(f"the program can't be built; see {LOG}")
+        why = f": {', '.join(course.failed)} can't be proved" if course.failed else ""
+        tell(f"the program can't be built{why}; see {LOG}")
         return NO_PROGRAM
     install(built, PROVED, begun)
     tell(f"the program is proved and built, after {spelled(time.time() - begun)}")
