@@ -19,8 +19,8 @@ use std::sync::{Mutex, Wait};
 use std::thread::{self, Threads};
 use test_tools::{
     Calls, Client, Course, Entry, FROM_CLIENT, Line, LineCourse, MASTER, Opened, Opening, Pass,
-    SOURCES, Sending, Sent, Still, TWO_OUTSTATIONS, TestCore, Turn, WorkerEnd, client_writer, clock,
-    entries_since, open_line, outstation_writer, read_client, read_outstation,
+    SOURCES, Sending, Sent, Still, TWO_OUTSTATIONS, TestCore, Turn, WorkerEnd, client_writer,
+    clock, entries_since, open_line, outstation_writer, read_client, read_outstation,
 };
 
 /// How many calls the recorder keeps: more than the workers make.
