@@ -5,8 +5,7 @@ ghost use Rattle.dnp_link.specs.FrameContent.{event_content_if, HasPaddedFrame};
 
 use crate::event::{LinkEvent, SkipReason};
 use crate::reading::{Front, frame_at, frame_length_of, front_of};
-use gw_model::Memory;
-use gw_octets::OctetQueue;
+use gw_model::{Memory, OctetQueue};
 use std::alloc::Global;
 use std::marker::Model;
 

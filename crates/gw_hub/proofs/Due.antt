@@ -10,7 +10,7 @@ use Rattle.dnp_master.specs.declared.task.Task.{Task}
 use Rattle.dnp_master.specs.declared.task.Task.TheVariants.{ClearRestart, RecordTime}
 use Rattle.dnp_master.specs.Master.{Master, first_task, if_due, task_given, task_request, tasks_due, time_due}
 use Rattle.gw_control.specs.Orders.{Outgoing}
-use Rattle.gw_orders.specs.Marks.{request_of}
+use Rattle.law_orders.specs.Marks.{request_of}
 use Rattle.gw_station.specs.declared.sending.Sending.{Sending}
 use Rattle.gw_station.specs.Client.{Client, is_up}
 use Rattle.gw_station.specs.Pump.{given, offered, content_of}

@@ -1,7 +1,7 @@
 //! What the hub's questions tell of its steps.
 ghost use Rattle.std.specs.Prelude.{◌≡◌, ℕ, true, is_some, slice_get, Some};
 ghost use Rattle.gw_map.specs.Settings.{Setup};
-ghost use Rattle.gw_orders.specs.Marks.{request_of};
+ghost use Rattle.law_orders.specs.Marks.{request_of};
 ghost use Rattle.gw_steps.specs.declared.step.Step.TheVariants as steps;
 ghost use Rattle.gw_steps.specs.State.{State};
 ghost use Rattle.gw_steps.specs.Steps.{client_up, reply_to};

@@ -1,6 +1,6 @@
 //! The core of the gateway: outstations and clients as one machine, `Hub`, that makes a step at a time
 //! and waits for nobody. Each step is the step relation of `gw_steps`, and at each place of every run of it the
-//! promises of `gw_laws` hold. There are places for eight clients.
+//! promises of `law_clients` hold. There are places for eight clients.
 #![tactic(auto)]
 
 mod common;

@@ -1,13 +1,13 @@
 //! Who follows the values of points besides control centres, as the options of `gateway run` say.
 
-use gw_command_line::RunOptions;
-use gw_commands::Names;
-use gw_event_file::EventFile;
+use cmd_line::RunOptions;
+use cmd_programs::Names;
 use gw_map::Settings;
 use gw_model::Memory;
-use gw_server::{EventQueue, Values};
-use gw_startup::Obstacle;
-use gw_values::Points;
+use run_event_file::EventFile;
+use run_server::{EventQueue, Values};
+use run_startup::Obstacle;
+use run_values::Points;
 use std::alloc::{AllocError, Global};
 
 /// What is followed, as it stands before anything is served.

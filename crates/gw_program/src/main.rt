@@ -8,11 +8,11 @@ mod shown;
 
 use crate::running::run;
 use clap::error::ErrorKind;
-use gw_command_line::{Asked, LineFault, VERSION, command_line as read_words};
-use gw_commands::{
+use cmd_line::{Asked, LineFault, VERSION, command_line as read_words};
+use cmd_programs::{
     CheckForm, USAGE, check, commit_of, pcap, points, refuse_for, replay, translate,
 };
-use gw_server::System;
+use run_server::System;
 use std::net::{Net, TcpListener, TcpStream};
 use std::process::ExitCode;
 use std::rt::Clock;

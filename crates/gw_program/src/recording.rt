@@ -1,10 +1,10 @@
 //! `gateway run --record`: a run that is taken down as lines of a replay.
 
-use gw_capture::{Capture, Kept};
-use gw_server::{
+use cmd_capture::{Capture, Kept};
+use cmd_text::{RecordEnd, RecordEndCause};
+use run_server::{
     Effects, Gate, Journal, JournalEvent, Observer, Place, Pumps, Reply, Step, StepFault, StepKind,
 };
-use gw_text::{RecordEnd, RecordEndCause};
 use std::sync::Wait;
 
 /// A gate that holds nobody, and takes down each step.

@@ -3,16 +3,16 @@
 use crate::following::{Followed, event_file};
 use crate::recording::{Recording, tell_end};
 use crate::shown::Shown;
-use gw_capture::{Capture, OnePiece, Pieces};
-use gw_command_line::RunOptions;
-use gw_commands::{Named, Names};
-use gw_event_file::{EventFile, EventWriter};
+use cmd_capture::{Capture, OnePiece, Pieces};
+use cmd_line::RunOptions;
+use cmd_programs::{Named, Names};
 use gw_map::Settings;
 use gw_model::Memory;
-use gw_server::{
+use run_event_file::{EventFile, EventWriter};
+use run_server::{
     Clock, Closed, Gate, Journal, OpenGate, Options, System, SystemClock, journal_of, serve_as,
 };
-use gw_startup::{
+use run_startup::{
     Entrances, PieceFiles, Source, Unserved, check_followers, check_records, folder_files,
     is_journal, read_source, record_files, refuse_run, tell_start,
 };

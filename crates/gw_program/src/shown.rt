@@ -1,8 +1,8 @@
 //! What the status shows of the program itself.
 
-use gw_command_line::VERSION;
-use gw_commands::commit_of;
-use gw_server::{Identity, ProcessFiles};
+use cmd_line::VERSION;
+use cmd_programs::commit_of;
+use run_server::{Identity, ProcessFiles};
 
 /// What is known of the program: the commit that it is built from, and where the system tells what it takes.
 #[derive(Drop)]

@@ -12,19 +12,19 @@ use Rattle.gw_steps.specs.declared.step.Reply.{Reply}
 use Rattle.gw_steps.specs.declared.step.StepFault.{StepFault}
 use Rattle.gw_steps.specs.declared.step.StepFault.TheVariants.{Spent}
 use Rattle.gw_steps.specs.Runs.{Entry}
-use Rattle.one_log.specs.Follows.{of_lane}
-use Rattle.gw_shared.specs.Reached.{Deed, entries_of, entry}
-use Rattle.gw_shared.specs.Roles.{IsOne, KeepsRoles, MayMake, Roles}
-use Rattle.gw_shared.specs.Turn.{Pass}
+use Rattle.run_log.specs.Follows.{of_lane}
+use Rattle.run_shared.specs.Reached.{Deed, entries_of, entry}
+use Rattle.run_shared.specs.Roles.{IsOne, KeepsRoles, MayMake, Roles}
+use Rattle.run_shared.specs.Turn.{Pass}
 use Rattle.gw_threads.specs.Calls.{AreCalls, Call, all_given, given_by}
 use Rattle.gw_threads.specs.Sends.{IsTowards, SendsAll, SendsAllGiven, is_poll, request_given}
 use Rattle.gw_threads.specs.Standing.{Stand}
 use Rattle.gw_threads.specs.Written.{AreAll, Asked, IsFor, Writes, Wrote, apdu_given, is_pump}
 use Rattle.gw_threads.proofs.Standing.{calls_stand}
-use Rattle.gw_ends.specs.declared.worker_end.WorkerEnd.{WorkerEnd}
-use Rattle.gw_ends.specs.declared.worker_end.WorkerEnd.TheVariants as ends
-use Rattle.one_log.specs.Follows.{Known}
-use Rattle.gw_ends.specs.declared.sent.Sending.{Sending}
+use Rattle.run_ends.specs.declared.worker_end.WorkerEnd.{WorkerEnd}
+use Rattle.run_ends.specs.declared.worker_end.WorkerEnd.TheVariants as ends
+use Rattle.run_log.specs.Follows.{Known}
+use Rattle.run_ends.specs.declared.sent.Sending.{Sending}
 
 -- what makes calls of a kind, which give something, all of an actor: whoever makes one is that actor, and of calls that
 -- can't be counted none gives anything

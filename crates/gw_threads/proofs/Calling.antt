@@ -5,8 +5,8 @@ use Rattle.gw_map.specs.Settings.{Setup}
 use Rattle.gw_steps.specs.declared.step.Step.{Step}
 use Rattle.gw_steps.specs.declared.step.Reply.{Reply}
 use Rattle.gw_steps.specs.declared.step.StepFault.{StepFault}
-use Rattle.gw_shared.specs.Turn.{Pass}
-use Rattle.gw_shared.proofs.Pumping.{same_actor}
+use Rattle.run_shared.specs.Turn.{Pass}
+use Rattle.run_shared.proofs.Pumping.{same_actor}
 use Rattle.gw_threads.specs.Calls.{AreCalls, Call, given_by}
 
 pub calls_then : (setup : Setup) (mine mid after : Pass) (a b : List Call) → AreCalls setup mine a mid

@@ -39,7 +39,7 @@ use Rattle.gw_steps.proofs.Inversion.{answered, who_is_up}
 use Rattle.gw_steps.proofs.Saying.{said-content}
 use Rattle.gw_map.specs.Settings.{Setup, station_clocks}
 use Rattle.gw_threads.specs.Carries.{is_reporting, TellsFit, SaysFit, CarriesFit}
-use Rattle.gw_shared.specs.Pumping.{IsPumped}
+use Rattle.run_shared.specs.Pumping.{IsPumped}
 
 -- ---- what is meant
 

@@ -8,27 +8,27 @@ use Rattle.gw_steps.specs.declared.step.Step.TheVariants as steps
 use Rattle.gw_steps.specs.declared.step.Reply.{Reply}
 use Rattle.gw_steps.specs.declared.step.Reply.TheVariants.{Apdu, Closed, Done, Nothing, Request, Taken, Ticked, Verdict}
 use Rattle.gw_steps.specs.declared.step.StepFault.{StepFault}
-use Rattle.gw_ends.specs.Ends.{is_write_fault}
-use Rattle.gw_ends.specs.PutOut.{Gave, Given, GivesAll, IsGathered, IsPut, MayHaveEnded, is_apdu, joined, writing_end}
-use Rattle.gw_shared.specs.Turn.{Pass}
-use Rattle.gw_shared.specs.Pumping.{ArePumped, IsGivenTo, IsPumpedRun, PumpsAll, PumpsOnce}
-use Rattle.gw_shared.specs.declared.pumped.Pumped.{Pumped}
-use Rattle.gw_shared.specs.declared.pumped.Pumped.TheVariants as pumps
-use Rattle.gw_shared.proofs.Pumping.{given_pumped}
-use Rattle.gw_ends.proofs.Joined.{joined-append}
-use Rattle.gw_ends.specs.declared.putting.Gathered.{Gathered}
+use Rattle.run_ends.specs.Ends.{is_write_fault}
+use Rattle.run_ends.specs.PutOut.{Gave, Given, GivesAll, IsGathered, IsPut, MayHaveEnded, is_apdu, joined, writing_end}
+use Rattle.run_shared.specs.Turn.{Pass}
+use Rattle.run_shared.specs.Pumping.{ArePumped, IsGivenTo, IsPumpedRun, PumpsAll, PumpsOnce}
+use Rattle.run_shared.specs.declared.pumped.Pumped.{Pumped}
+use Rattle.run_shared.specs.declared.pumped.Pumped.TheVariants as pumps
+use Rattle.run_shared.proofs.Pumping.{given_pumped}
+use Rattle.run_ends.proofs.Joined.{joined-append}
+use Rattle.run_ends.specs.declared.putting.Gathered.{Gathered}
 use Rattle.std.proofs.Math.Seq.{take-append-add}
 use Rattle.std.proofs.lemmas.List.{append-nil}
 use Rattle.gw_threads.specs.Calls.{Call, given_by}
 use Rattle.gw_threads.specs.Written.{Asked, Asking, GivesTo, IsFor, IsPutOut, Settles, TellsLoss, Writes}
 use Rattle.gw_threads.specs.Written.{WritesIfEnded, WritesPut, Wrote, WroteFront, apdu_given, gathered_by}
-use Rattle.gw_ends.specs.declared.worker_end.WorkerEnd.{WorkerEnd}
-use Rattle.gw_ends.specs.declared.worker_end.WorkerEnd.TheVariants as ends
+use Rattle.run_ends.specs.declared.worker_end.WorkerEnd.{WorkerEnd}
+use Rattle.run_ends.specs.declared.worker_end.WorkerEnd.TheVariants as ends
 use Rattle.gw_threads.proofs.Calling.{calls_own, calls_then, given_then, all-append}
 use Rattle.gw_threads.proofs.Carried.{pumped_carries}
-use Rattle.gw_ends.proofs.Runs.{appends-more}
-use Rattle.gw_ends.specs.declared.putting.Put.{Put}
-use Rattle.gw_ends.specs.declared.putting.Put.TheVariants.{Ended, Unwritten, More}
+use Rattle.run_ends.proofs.Runs.{appends-more}
+use Rattle.run_ends.specs.declared.putting.Put.{Put}
+use Rattle.run_ends.specs.declared.putting.Put.TheVariants.{Ended, Unwritten, More}
 
 pub asked_then : (setup : Setup) (client : ℕ) (mine mid after : Pass) (a b : List ApduBuf)
     → Asked setup client mine mid a → Asked setup client mid after b → Asked setup client mine after (a ++ b)

@@ -8,12 +8,12 @@ use Rattle.gw_steps.specs.declared.step.Step.TheVariants as steps
 use Rattle.gw_steps.specs.declared.step.Reply.{Reply}
 use Rattle.gw_steps.specs.declared.step.Reply.TheVariants as replies
 use Rattle.gw_steps.specs.declared.step.StepFault.{StepFault}
-use Rattle.gw_shared.specs.Turn.{Pass}
-use Rattle.gw_ends.specs.declared.sent.Sent.{Sent}
-use Rattle.gw_ends.specs.declared.sent.Sent.TheVariants as sents
-use Rattle.gw_ends.specs.declared.sent.Sending.{Sending}
-use Rattle.gw_ends.specs.Sent.{IsSent, is_cut_off}
-use Rattle.one_log.specs.Follows.{Known}
+use Rattle.run_shared.specs.Turn.{Pass}
+use Rattle.run_ends.specs.declared.sent.Sent.{Sent}
+use Rattle.run_ends.specs.declared.sent.Sent.TheVariants as sents
+use Rattle.run_ends.specs.declared.sent.Sending.{Sending}
+use Rattle.run_ends.specs.Sent.{IsSent, is_cut_off}
+use Rattle.run_log.specs.Follows.{Known}
 use Rattle.gw_threads.specs.Calls.{Call, given_by}
 use Rattle.gw_threads.specs.Sends.{AreSent, IsTowards, PollsOnce, SentAll, TellsOutstationLoss, is_request, request_given}
 use Rattle.gw_threads.proofs.Calling.{calls_own, calls_then, given_then, all-append}

@@ -3,15 +3,15 @@ use Rattle.std.proofs.Common.{◌≡◌, inl, inr, ℕ, Bool, List, [], ◌∷�
 use Rattle.std.proofs.Common.{map, refl, sym, ap, subst, ◌∙◌, append_assoc}
 use Rattle.std.specs.Prelude.{reverse}
 use Rattle.std.proofs.lemmas.List.{append-nil, reverse-append, reverse-reverse}
-use Rattle.one_log.specs.Follows.{Known, of_lane}
-use Rattle.one_log.proofs.Lanes.{of_lane_added, same_of_lane}
+use Rattle.run_log.specs.Follows.{Known, of_lane}
+use Rattle.run_log.proofs.Lanes.{of_lane_added, same_of_lane}
 use Rattle.gw_map.specs.Settings.{Setup}
 use Rattle.gw_steps.specs.Runs.{Entry}
-use Rattle.gw_shared.specs.Reached.{entry}
-use Rattle.gw_shared.specs.Turn.{Pass}
-use Rattle.gw_shared.proofs.Pumping.{same_actor}
-use Rattle.gw_ends.specs.declared.sent.Sending.{Sending}
-use Rattle.gw_ends.specs.Sent.{IsNew}
+use Rattle.run_shared.specs.Reached.{entry}
+use Rattle.run_shared.specs.Turn.{Pass}
+use Rattle.run_shared.proofs.Pumping.{same_actor}
+use Rattle.run_ends.specs.declared.sent.Sending.{Sending}
+use Rattle.run_ends.specs.Sent.{IsNew}
 use Rattle.gw_threads.specs.Sends.{AreSent, SendsAll}
 use Rattle.gw_threads.specs.Standing.{SentAlone, StandAlone, all_sent}
 use Rattle.gw_threads.specs.Writers.{SentByPolls}

@@ -2,10 +2,10 @@
 use Rattle.std.proofs.Common.{◌≡◌, ℕ, List, ◌++◌, take, Some, sym, ap, ◌∙◌}
 use Rattle.iec_apci.specs.declared.buffer.ApduBuf.{ApduBuf}
 use Rattle.gw_map.specs.Settings.{Setup}
-use Rattle.gw_shared.specs.Reached.{entries_of}
-use Rattle.gw_shared.specs.Turn.{Pass}
-use Rattle.gw_ends.specs.Octets.{joined}
-use Rattle.gw_ends.specs.declared.worker_end.WorkerEnd.TheVariants.{Stopping, WriteFault}
+use Rattle.run_shared.specs.Reached.{entries_of}
+use Rattle.run_shared.specs.Turn.{Pass}
+use Rattle.run_ends.specs.Octets.{joined}
+use Rattle.run_ends.specs.declared.worker_end.WorkerEnd.TheVariants.{Stopping, WriteFault}
 use Rattle.gw_threads.specs.Calls.{AreCalls, Call, all_given, given_by}
 use Rattle.gw_threads.specs.Written.{AreAll, Asked, Writes, apdu_given, is_pump}
 

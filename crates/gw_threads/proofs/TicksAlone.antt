@@ -4,7 +4,7 @@ use Rattle.gw_map.specs.Settings.{Setup}
 use Rattle.gw_steps.specs.declared.step.Step.TheVariants as steps
 use Rattle.gw_steps.specs.declared.step.Reply.{Reply}
 use Rattle.gw_steps.specs.declared.step.StepFault.{StepFault}
-use Rattle.gw_shared.specs.Turn.{Answers, Pass}
+use Rattle.run_shared.specs.Turn.{Answers, Pass}
 use Rattle.gw_threads.specs.Calls.{Call}
 use Rattle.gw_threads.specs.Ticking.{IsTick, Ticks}
 use Rattle.gw_threads.proofs.Calling.{all-append, calls_then}

@@ -5,7 +5,7 @@ use Rattle.gw_steps.specs.declared.step.Step.{Step}
 use Rattle.gw_steps.specs.declared.step.Reply.{Reply}
 use Rattle.gw_steps.specs.declared.step.StepFault.{StepFault}
 use Rattle.gw_steps.specs.Runs.{Entry}
-use Rattle.gw_shared.specs.Turn.{Answers, Pass}
+use Rattle.run_shared.specs.Turn.{Answers, Pass}
 
 -- a call that was made with a pass: its step, its number, and what it was answered
 pub record Call : Type 0 where

@@ -1,8 +1,12 @@
 pub mod Calls
 pub mod Carries
-pub mod Written
+pub mod Confirmed
+pub mod Confirms
+pub mod Frames
+pub mod Heard
 pub mod Sends
 pub mod Standing
 pub mod Ticking
-pub mod Writers
 pub mod Whole
+pub mod Writers
+pub mod Written

@@ -8,12 +8,12 @@ use Rattle.gw_steps.specs.declared.step.Step.TheVariants as steps
 use Rattle.gw_steps.specs.declared.step.Reply.{Reply}
 use Rattle.gw_steps.specs.declared.step.Reply.TheVariants as replies
 use Rattle.gw_steps.specs.declared.step.StepFault.{StepFault}
-use Rattle.gw_shared.specs.Reached.{entries_of}
-use Rattle.gw_shared.specs.Turn.{Answers, Pass}
-use Rattle.gw_ends.specs.declared.sent.Sent.TheVariants as sents
-use Rattle.gw_ends.specs.declared.sent.Sending.{Sending}
-use Rattle.gw_ends.specs.Sent.{IsNew, IsSent, is_cut_off}
-use Rattle.one_log.specs.Follows.{Known}
+use Rattle.run_shared.specs.Reached.{entries_of}
+use Rattle.run_shared.specs.Turn.{Answers, Pass}
+use Rattle.run_ends.specs.declared.sent.Sent.TheVariants as sents
+use Rattle.run_ends.specs.declared.sent.Sending.{Sending}
+use Rattle.run_ends.specs.Sent.{IsNew, IsSent, is_cut_off}
+use Rattle.run_log.specs.Follows.{Known}
 use Rattle.gw_threads.specs.Calls.{AreCalls, Call, all_given, given_by}
 
 -- a step polls an outstation, or tells that it is lost

@@ -1,12 +1,12 @@
 -- What of a history is an actor's own: the calls that were made with its pass, and no other; what a worker sent on a line,
 -- and nothing else.
 use Rattle.std.specs.Prelude.{◌≡◌, ◌⊎◌, List, [], ◌∷◌, ◌++◌, reverse, Err}
-use Rattle.one_log.specs.Follows.{Known, of_lane}
+use Rattle.run_log.specs.Follows.{Known, of_lane}
 use Rattle.gw_steps.specs.declared.step.StepFault.TheVariants.{Spent}
 use Rattle.gw_steps.specs.Runs.{Entry}
-use Rattle.gw_shared.specs.Reached.{entry}
-use Rattle.gw_shared.specs.Turn.{Pass}
-use Rattle.gw_ends.specs.declared.sent.Sending.{Sending}
+use Rattle.run_shared.specs.Reached.{entry}
+use Rattle.run_shared.specs.Turn.{Pass}
+use Rattle.run_ends.specs.declared.sent.Sending.{Sending}
 use Rattle.gw_threads.specs.Calls.{Call}
 
 -- a call is the oldest of these entries; or it was refused, since no further call could be counted

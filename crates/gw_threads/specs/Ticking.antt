@@ -4,7 +4,7 @@ use Rattle.std.specs.List.{AllByRecursion}
 use Rattle.gw_map.specs.Settings.{Setup}
 use Rattle.gw_steps.specs.declared.step.Step.{Step}
 use Rattle.gw_steps.specs.declared.step.Step.TheVariants as steps
-use Rattle.gw_shared.specs.Turn.{Pass}
+use Rattle.run_shared.specs.Turn.{Pass}
 use Rattle.gw_threads.specs.Calls.{AreCalls, Call}
 
 -- a step is a tick

@@ -1,11 +1,11 @@
 -- What a line's history has of the writer towards an outstation.
 use Rattle.std.specs.Prelude.{◌≡◌, ℕ, List, map}
 use Rattle.std.specs.List.{AllByRecursion}
-use Rattle.one_log.specs.Follows.{Known}
+use Rattle.run_log.specs.Follows.{Known}
 use Rattle.gw_map.specs.Settings.{Setup}
-use Rattle.gw_shared.specs.Turn.{Pass}
-use Rattle.gw_ends.specs.declared.sent.Sent.TheVariants as sents
-use Rattle.gw_ends.specs.declared.sent.Sending.{Sending}
+use Rattle.run_shared.specs.Turn.{Pass}
+use Rattle.run_ends.specs.declared.sent.Sent.TheVariants as sents
+use Rattle.run_ends.specs.declared.sent.Sending.{Sending}
 use Rattle.gw_threads.specs.Calls.{AreCalls, Call, given_by}
 use Rattle.gw_threads.specs.Sends.{IsTowards, request_given}
 use Rattle.gw_threads.specs.Standing.{all_sent}

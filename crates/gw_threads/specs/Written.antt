@@ -10,21 +10,21 @@ use Rattle.gw_steps.specs.declared.step.Step.TheVariants as steps
 use Rattle.gw_steps.specs.declared.step.Reply.{Reply}
 use Rattle.gw_steps.specs.declared.step.Reply.TheVariants.{Apdu}
 use Rattle.gw_steps.specs.declared.step.StepFault.{StepFault}
-pub use Rattle.gw_shared.specs.Pumping.{IsPumped}
-use Rattle.gw_shared.specs.Pumping.{PumpsOnce}
-use Rattle.gw_shared.specs.Reached.{entries_of}
-use Rattle.gw_shared.specs.Turn.{Answers, Pass}
-use Rattle.gw_shared.specs.declared.pumped.Pumped.{Pumped}
-use Rattle.gw_shared.specs.declared.pumped.Pumped.TheVariants as pumps
+pub use Rattle.run_shared.specs.Pumping.{IsPumped}
+use Rattle.run_shared.specs.Pumping.{PumpsOnce}
+use Rattle.run_shared.specs.Reached.{entries_of}
+use Rattle.run_shared.specs.Turn.{Answers, Pass}
+use Rattle.run_shared.specs.declared.pumped.Pumped.{Pumped}
+use Rattle.run_shared.specs.declared.pumped.Pumped.TheVariants as pumps
 use Rattle.gw_threads.specs.Calls.{AreCalls, Call, all_given, given_by}
 use Rattle.gw_threads.specs.Carries.{CarriesFit}
-use Rattle.gw_ends.specs.PutOut.{Given, joined}
-use Rattle.gw_ends.specs.declared.putting.Gathered.{Gathered}
-use Rattle.gw_ends.specs.declared.putting.Gathered.TheVariants as gathering
-use Rattle.gw_ends.specs.declared.putting.Put.{Put}
-use Rattle.gw_ends.specs.declared.putting.Put.TheVariants as puts
-use Rattle.gw_ends.specs.declared.worker_end.WorkerEnd.{WorkerEnd}
-use Rattle.gw_ends.specs.declared.worker_end.WorkerEnd.TheVariants as ends
+use Rattle.run_ends.specs.PutOut.{Given, joined}
+use Rattle.run_ends.specs.declared.putting.Gathered.{Gathered}
+use Rattle.run_ends.specs.declared.putting.Gathered.TheVariants as gathering
+use Rattle.run_ends.specs.declared.putting.Put.{Put}
+use Rattle.run_ends.specs.declared.putting.Put.TheVariants as puts
+use Rattle.run_ends.specs.declared.worker_end.WorkerEnd.{WorkerEnd}
+use Rattle.run_ends.specs.declared.worker_end.WorkerEnd.TheVariants as ends
 
 -- a worker that asks for one client, with its pass
 pub record Asking : Type 0 where

@@ -1,6 +1,6 @@
 //! What a worker waits for between two of its turns.
 
-use gw_shared::Bell;
+use run_shared::Bell;
 use std::sync::Wait;
 use std::time::Duration;
 

@@ -1,10 +1,10 @@
 //! Calls on the core, of which an observer is told.
 ghost use Rattle.std.specs.Prelude.{◌≡◌, ℕ};
-ghost use Rattle.gw_shared.specs.Roles.{MayMake};
-ghost use Rattle.gw_shared.specs.Turn.{Answers};
+ghost use Rattle.run_shared.specs.Roles.{MayMake};
+ghost use Rattle.run_shared.specs.Turn.{Answers};
 
 use crate::observer::Observer;
-use gw_shared::{Calls, Course, Pass, Reply, Step, StepFault};
+use run_shared::{Calls, Course, Pass, Reply, Step, StepFault};
 use std::sync::Wait;
 
 /// Makes a step on the shared core, and tells an observer of it. Gives the reply.

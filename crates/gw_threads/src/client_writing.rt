@@ -1,17 +1,17 @@
 //! The writer of a client.
 ghost use Rattle.std.specs.Prelude.{◌≡◌, ◌||◌, true, IfSome, Some};
-ghost use Rattle.gw_ends.specs.Ends.{is_write_fault, MayEndWriting};
-ghost use Rattle.gw_ends.specs.PutOut.{is_unwritten};
-ghost use Rattle.gw_shared.specs.Roles.{IsOne};
-ghost use Rattle.gw_shared.specs.Turn.{Pass as Seen};
+ghost use Rattle.run_ends.specs.Ends.{is_write_fault, MayEndWriting};
+ghost use Rattle.run_ends.specs.PutOut.{is_unwritten};
+ghost use Rattle.run_shared.specs.Roles.{IsOne};
+ghost use Rattle.run_shared.specs.Turn.{Pass as Seen};
 ghost use Rattle.gw_threads.specs.Written.{AreAll, Asked, Settles, TellsLoss, Writes, WritesIfEnded, WritesPut};
 
 use crate::awaited::Awaited;
 use crate::gate::Gate;
 use crate::source::ClientWriter;
-use gw_clock::Clock;
-use gw_ends::{Batch, Outgoing, Put, WorkerEnd, put_out};
-use gw_shared::{Calls, Course, Pass};
+use run_clock::Clock;
+use run_ends::{Batch, Outgoing, Put, WorkerEnd, put_out};
+use run_shared::{Calls, Course, Pass};
 use std::sync::Wait;
 
 /// Hands over what the core puts out to a client, until the client isn't up any more, writing fails, or it is asked

@@ -4,7 +4,7 @@ ghost use Rattle.iec_apci.specs.declared.buffer.ApduBuf.{ApduBuf};
 ghost use Rattle.dnp_app.specs.declared.request.Request.{Request};
 ghost use Rattle.gw_steps.specs.declared.step.Step.TheVariants as steps;
 ghost use Rattle.gw_steps.specs.declared.step.Reply.TheVariants as replies;
-ghost use Rattle.gw_shared.specs.Reached.{entry};
+ghost use Rattle.run_shared.specs.Reached.{entry};
 ghost use Rattle.gw_threads.specs.Calls.{all_given, given_by};
 ghost use Rattle.gw_threads.specs.Sends.{is_poll, IsTowards, request_given};
 ghost use Rattle.gw_threads.specs.Ticking.{IsTick};

@@ -2,7 +2,7 @@
 
 use crate::observer::Observer;
 use dnp_app::AppFault;
-use gw_shared::{Effects, Pumps, Reply, Step, StepFault, StepKind};
+use run_shared::{Effects, Pumps, Reply, Step, StepFault, StepKind};
 
 /// A place on the way of a worker.
 #[derive(Clone, Copy)]

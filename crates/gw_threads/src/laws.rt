@@ -1,13 +1,13 @@
 //! Laws of calls, and of what is sent.
 ghost use Rattle.std.specs.Prelude.{◌≡◌, ◌++◌, ℕ, Bool, List, Some, take};
 ghost use Rattle.iec_apci.specs.declared.buffer.ApduBuf.{ApduBuf};
-ghost use Rattle.one_log.specs.Follows.{Known};
-ghost use Rattle.gw_ends.specs.Octets.{joined, octets_in};
-ghost use Rattle.gw_ends.specs.declared.sent.Sending.{Sending};
-ghost use Rattle.gw_ends.specs.declared.worker_end.WorkerEnd.TheVariants.{Stopping, WriteFault};
+ghost use Rattle.run_log.specs.Follows.{Known};
+ghost use Rattle.run_ends.specs.Octets.{joined, octets_in};
+ghost use Rattle.run_ends.specs.declared.sent.Sending.{Sending};
+ghost use Rattle.run_ends.specs.declared.worker_end.WorkerEnd.TheVariants.{Stopping, WriteFault};
 ghost use Rattle.gw_map.specs.Settings.{Setup};
-ghost use Rattle.gw_shared.specs.Reached.{entries_of};
-ghost use Rattle.gw_shared.specs.Turn.{Pass};
+ghost use Rattle.run_shared.specs.Reached.{entries_of};
+ghost use Rattle.run_shared.specs.Turn.{Pass};
 ghost use Rattle.gw_threads.specs.Sends.{AreSent, SendsAll};
 ghost use Rattle.gw_threads.specs.Standing.{SentAlone, StandAlone};
 ghost use Rattle.gw_threads.specs.Whole.{IsWhole};

@@ -5,8 +5,8 @@ ghost use Rattle.gw_threads.specs.Written.{TellsLoss};
 
 use crate::call::make_call;
 use crate::gate::Gate;
-use gw_clock::Clock;
-use gw_shared::{Calls, Course, Pass, Step};
+use run_clock::Clock;
+use run_shared::{Calls, Course, Pass, Step};
 use std::sync::Wait;
 
 /// The connection to a client is lost. Where it was lost before, nothing changes.

@@ -1,6 +1,6 @@
 //! Who is told of the steps that workers make.
 
-use gw_shared::{Effects, Pumps, Reply, Step, StepFault, StepKind};
+use run_shared::{Effects, Pumps, Reply, Step, StepFault, StepKind};
 
 /// Who is told of each step once it was made, where no lock is held: of those of one worker in their order, each once. A call
 /// that takes its time holds the worker.

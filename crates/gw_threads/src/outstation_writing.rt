@@ -1,8 +1,8 @@
 //! The writer towards an outstation.
 ghost use Rattle.std.specs.Prelude.{◌≡◌, false, true, IfSome, MatchOption, Some};
-ghost use Rattle.gw_ends.specs.Ends.{is_write_fault, MayEndWriting};
-ghost use Rattle.gw_shared.specs.Roles.{IsOne};
-ghost use Rattle.gw_shared.specs.Turn.{Pass as Seen};
+ghost use Rattle.run_ends.specs.Ends.{is_write_fault, MayEndWriting};
+ghost use Rattle.run_shared.specs.Roles.{IsOne};
+ghost use Rattle.run_shared.specs.Turn.{Pass as Seen};
 ghost use Rattle.gw_threads.specs.Sends.{is_request, PollsOnce, SendsAll, SendsAllGiven, SentAll, TellsOutstationLoss};
 
 use crate::awaited::Awaited;
@@ -10,9 +10,9 @@ use crate::call::make_call;
 use crate::gate::{Gate, Place};
 use crate::lost::lose_outstation;
 use dnp_app::Request;
-use gw_clock::Clock;
-use gw_ends::{Front, Line, LineCourse, Outgoing, Sending, WorkerEnd};
-use gw_shared::{Calls, Course, Pass, Reply, Step, StepFault};
+use run_clock::Clock;
+use run_ends::{Front, Line, LineCourse, Outgoing, Sending, WorkerEnd};
+use run_shared::{Calls, Course, Pass, Reply, Step, StepFault};
 use std::sync::Wait;
 
 /// The writer towards an outstation.

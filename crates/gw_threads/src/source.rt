@@ -1,14 +1,14 @@
 //! What a client's writer works with, which gives the replies to pumps.
 ghost use Rattle.std.specs.Prelude.{◌≡◌};
-ghost use Rattle.gw_shared.specs.Roles.{IsOne};
+ghost use Rattle.run_shared.specs.Roles.{IsOne};
 ghost use Rattle.gw_threads.specs.Written.{gathered_by, GivesTo, TellsLoss};
 
 use crate::awaited::Awaited;
 use crate::gate::{Gate, Place};
 use crate::lost::lose_client;
-use gw_clock::Clock;
-use gw_ends::{Batch, Gathered, Source};
-use gw_shared::{Calls, Course, Pass, Pumped, Pumps};
+use run_clock::Clock;
+use run_ends::{Batch, Gathered, Source};
+use run_shared::{Calls, Course, Pass, Pumped, Pumps};
 use std::marker::Model;
 use std::sync::Wait;
 
@@ -26,7 +26,7 @@ pub struct ClientWriter<'a, L: Course, S: Calls<L>, R: Wait, C: Clock, G: Gate> 
 
 impl<'a, L: Course, S: Calls<L>, R: Wait, C: Clock, G: Gate> Model
     for ClientWriter<'a, L, S, R, C, G> {
-    ghost use Rattle.gw_shared.specs.Roles.{IsOne};
+    ghost use Rattle.run_shared.specs.Roles.{IsOne};
     ghost use Rattle.gw_threads.specs.Written.{Asking};
 
     ghost Value = { Asking };

@@ -7,8 +7,7 @@ ghost use Rattle.iec_apci.specs.ApduContent.{content_if, IsNumbered, IsPadded};
 use crate::apdu::Apdu;
 use crate::fault::ApciFault;
 use crate::reading::{apdu_at, size_of};
-use gw_model::Memory;
-use gw_octets::OctetQueue;
+use gw_model::{Memory, OctetQueue};
 use std::alloc::Global;
 use std::marker::Model;
 

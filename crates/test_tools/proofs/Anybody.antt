@@ -2,7 +2,7 @@
 use Rattle.std.proofs.Common.{◌≡◌, ℕ, sym, subst}
 use Rattle.gw_steps.specs.declared.step.Step.{Step}
 use Rattle.gw_steps.specs.declared.step.Step.TheVariants as steps
-use Rattle.gw_shared.specs.Roles.{IsOne, MayMake, Roles, anybody}
+use Rattle.run_shared.specs.Roles.{IsOne, MayMake, Roles, anybody}
 
 any_call : (actor : ℕ) (step : Step) → MayMake anybody actor step
 any_call actor (steps.Pump c m) = tt

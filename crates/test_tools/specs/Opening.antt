@@ -2,8 +2,8 @@
 use Rattle.std.specs.Prelude.{◌≡◌, ℕ}
 use Rattle.logbook.specs.Pages.{Book}
 use Rattle.gw_map.specs.Settings.{Setup}
-use Rattle.gw_shared.specs.Reached.{IsFirst}
-use Rattle.gw_shared.specs.Roles.{Roles, anybody}
+use Rattle.run_shared.specs.Reached.{IsFirst}
+use Rattle.run_shared.specs.Roles.{Roles, anybody}
 use Rattle.test_tools.specs.declared.opening.Opening.{Opening}
 
 -- the ledger has this name, and parts for so many actors; the history is this book's; no step was made on the hub, which

@@ -1,7 +1,7 @@
 //! Steps and answers as the lines of a replay.
 
-use gw_capture::{Instruction, push_reply, read_instruction};
-use gw_readers::{Machine, Reply, Step, StepFault};
+use cmd_capture::{Instruction, push_reply, read_instruction};
+use gw_threads::{Machine, Reply, Step, StepFault};
 use std::alloc::Global;
 
 /// What a step was answered.

@@ -1,24 +1,24 @@
 //! Cores to test on, and their end.
 ghost use Rattle.std.specs.Prelude.{◌≡◌, ◌<◌};
-ghost use Rattle.gw_shared.specs.Roles.{anybody};
+ghost use Rattle.run_shared.specs.Roles.{anybody};
 ghost use Rattle.test_tools.specs.Opening.{IsFor};
 
 use crate::asking::{Answer, Turn, has_text, step_of};
 use crate::memory::{read_alone, read_client, write_client};
 use crate::opening::Opening;
 use crate::peers::Source;
-use gw_ends::open_line;
 use gw_hub::Hub;
-use gw_readers::{Calls, Course, Gate, Incoming, Outgoing, Pass, Step, WorkerEnd};
+use gw_threads::{Calls, Course, Gate, Incoming, Outgoing, Pass, Step, WorkerEnd};
+use run_ends::open_line;
 use std::alloc::Global;
 use std::marker::Brand;
 use std::sync::Wait;
 
 /// A hub under its lock.
-pub type Shared<L> = gw_readers::Shared<L, Hub>;
+pub type Shared<L> = gw_threads::Shared<L, Hub>;
 
 /// The recorder of a hub.
-pub type Recorder = gw_readers::Recorder<Hub>;
+pub type Recorder = gw_threads::Recorder<Hub>;
 
 /// A shared core on which anybody may make any call, and the passes of its actors that no call has taken.
 #[derive(Drop)]

@@ -3,8 +3,8 @@ ghost use Rattle.std.specs.Prelude.{◌≡◌, IfSome};
 ghost use Rattle.gw_steps.specs.declared.step.Step.TheVariants as steps;
 ghost use Rattle.gw_steps.specs.Steps.{Allowed};
 
-use gw_ends::{Batch, Gathered, LONGEST_APDU, Source, apdu_in};
 use gw_hub::{Machine, Step};
+use run_ends::{Batch, Gathered, LONGEST_APDU, Source, apdu_in};
 
 /// A machine alone, pumped for one client at one moment.
 #[derive(Drop)]

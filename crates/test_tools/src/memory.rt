@@ -1,11 +1,11 @@
 //! Ends of connections in memory.
 ghost use Rattle.std.specs.Prelude.{◌≡◌, false, None};
-ghost use Rattle.gw_shared.specs.Roles.{IsOne};
+ghost use Rattle.run_shared.specs.Roles.{IsOne};
 
 use crate::cores::Shared;
 use crate::peers::{MASTER, Source, Still};
 use dnp_receive::Receiver;
-use gw_readers::{
+use gw_threads::{
     Arrival, Calls, Course, Gate, Incoming, Line, LineCourse, Opened, Outgoing, Pass, Patience,
     Sending, Unwritten, WorkerEnd, client_reader, client_writer, outstation_reader,
 };

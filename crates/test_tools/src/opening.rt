@@ -1,11 +1,11 @@
 //! Hubs to test on, and what cores are made of.
 ghost use Rattle.std.specs.Prelude.{◌≡◌, IfSome};
-ghost use Rattle.gw_shared.specs.Reached.{IsFirst};
+ghost use Rattle.run_shared.specs.Reached.{IsFirst};
 
 use crate::asking::{Answer, steps_of, text_of};
 use gw_hub::Hub;
 use gw_map::Settings;
-use gw_readers::{Made, Opened, Step, open_course};
+use gw_threads::{Made, Opened, Step, open_course};
 use std::alloc::Global;
 use std::sync::ledger::Blank;
 

@@ -1,6 +1,6 @@
 //! What outstations and clients send, and a clock that stands still.
 
-use gw_readers::Clock;
+use gw_threads::Clock;
 
 /// A clock that stands still.
 #[derive(Clone, Copy)]

@@ -4,7 +4,7 @@ use crate::asking::{Answer, answer_of, text_of};
 use crate::cores::Recorder;
 use dnp_app::KeptResponse;
 use gw_hub::{Hub, Machine};
-use gw_readers::{Entry, Kept, KeptStep, Step};
+use gw_threads::{Entry, Kept, KeptStep, Step};
 use std::alloc::Global;
 
 /// The calls that a recorder has kept since a base, before which the actors had made so many; nothing if it is off, or has

@@ -1,4 +1,4 @@
-use Rattle.gw_orders.specs.Bonds.{HasShortIndex}
+use Rattle.law_orders.specs.Bonds.{HasShortIndex}
 use Rattle.gw_hub.proofs.Each.{all_more, all_taken}
 use Rattle.gw_hub.proofs.hub.attest_indices.Goals as goal
 

@@ -1,7 +1,7 @@
 use Rattle.std.proofs.Common.{ℕ, Option, ◌||◌, Bool, sym, ap, ◌∙◌, subst}
-use Rattle.gw_ends.specs.declared.worker_end.WorkerEnd.{WorkerEnd}
-use Rattle.gw_ends.specs.Ends.{is_write_fault}
-use Rattle.gw_ends.proofs.Failed.{writing_fails}
+use Rattle.run_ends.specs.declared.worker_end.WorkerEnd.{WorkerEnd}
+use Rattle.run_ends.specs.Ends.{is_write_fault}
+use Rattle.run_ends.proofs.Failed.{writing_fails}
 use Rattle.gw_threads.specs.Written.{Asked, Settles, TellsLoss, WritesIfEnded}
 use Rattle.gw_threads.proofs.Gathering.{settled, unwritten_lost}
 use Rattle.gw_threads.proofs.client_writing.client_turn.Goals as goal

@@ -1,5 +1,5 @@
 use Rattle.std.proofs.Common.{ap, subst, sym, ◌∙◌, rules}
-use Rattle.gw_shared.specs.Turn.{Pass}
+use Rattle.run_shared.specs.Turn.{Pass}
 use Rattle.gw_threads.specs.Written.{Asking, TellsLoss}
 use Rattle.gw_threads.proofs.Alone.{writes_all}
 use Rattle.gw_threads.proofs.Gathering.{writes_own}

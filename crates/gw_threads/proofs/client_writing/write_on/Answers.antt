@@ -1,5 +1,5 @@
 use Rattle.std.proofs.Common.{ℕ, ◌||◌, Bool, Some, ap, ◌∙◌, refl, subst}
-use Rattle.gw_ends.specs.Ends.{is_write_fault}
+use Rattle.run_ends.specs.Ends.{is_write_fault}
 use Rattle.gw_threads.specs.Written.{Asked, TellsLoss, Writes, Wrote}
 use Rattle.gw_threads.proofs.Gathering.{wrote_none, wrote-then, writes-then}
 use Rattle.gw_threads.proofs.client_writing.write_on.Goals as goal

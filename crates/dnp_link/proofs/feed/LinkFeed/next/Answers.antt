@@ -1,5 +1,5 @@
 use Rattle.std.proofs.Common.{refl, ◌∙◌, ap, drop}
-use Rattle.gw_octets.specs.Queue.{Queue}
+use Rattle.gw_model.specs.Queue.{Queue}
 use Rattle.dnp_link.specs.FrameContent.{content}
 use Rattle.dnp_link.specs.Frame.{frame_length}
 use Rattle.dnp_link.specs.Stream.{Dropped, event_at_front}

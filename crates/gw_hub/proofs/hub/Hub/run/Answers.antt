@@ -5,17 +5,17 @@ use Rattle.gw_steps.specs.declared.step.Reply.{Reply}
 use Rattle.gw_steps.specs.declared.step.StepFault.{StepFault}
 use Rattle.gw_steps.specs.Runs.{history}
 use Rattle.std.specs.List.{AllByRecursion}
-use Rattle.gw_history.specs.Premises.{IsSoundRun}
-use Rattle.gw_orders.specs.Bonds.{HasShortIndex, IsControlRun}
-use Rattle.gw_orders.proofs.Bonded.{bound, told_once}
-use Rattle.gw_orders.proofs.Follows.{told_when_due}
-use Rattle.gw_orders.proofs.CommandsTold.{commands_answered}
-use Rattle.gw_orders.proofs.RequestPlaces.{requests_due}
-use Rattle.gw_fates.proofs.Runs.{fates}
-use Rattle.gw_fates.proofs.Tells.{fates_told}
-use Rattle.gw_told.proofs.Together.{steps_tell}
-use Rattle.gw_laws.proofs.Promised.{keeps_promises}
-use Rattle.gw_laws.proofs.Kept.{keeps_connections}
+use Rattle.law_history.specs.Premises.{IsSoundRun}
+use Rattle.law_orders.specs.Bonds.{HasShortIndex, IsControlRun}
+use Rattle.law_orders.proofs.Bonded.{bound, told_once}
+use Rattle.law_orders.proofs.Follows.{told_when_due}
+use Rattle.law_orders.proofs.CommandsTold.{commands_answered}
+use Rattle.law_orders.proofs.RequestPlaces.{requests_due}
+use Rattle.law_fates.proofs.Runs.{fates}
+use Rattle.law_fates.proofs.Tells.{fates_told}
+use Rattle.law_effects.proofs.Together.{steps_tell}
+use Rattle.law_clients.proofs.Promised.{keeps_promises}
+use Rattle.law_clients.proofs.Kept.{keeps_connections}
 use Rattle.gw_hub.proofs.hub.Hub.run.Goals as goal
 
 -- the run of a hub that was made of settings

@@ -1,7 +1,7 @@
 use Rattle.std.proofs.Common.{not, ap, false, subst}
 use Rattle.std.specs.Prelude.{is_ok}
-use Rattle.one_log.specs.Follows.{Known}
-use Rattle.gw_ends.specs.declared.sent.Sending.{Sending}
+use Rattle.run_log.specs.Follows.{Known}
+use Rattle.run_ends.specs.declared.sent.Sending.{Sending}
 use Rattle.gw_threads.specs.Sends.{SentAll}
 use Rattle.gw_threads.proofs.Requesting.{sent_nothing, sent_request}
 use Rattle.gw_threads.proofs.outstation_writing.OutstationWriter.send_next.Goals as goal

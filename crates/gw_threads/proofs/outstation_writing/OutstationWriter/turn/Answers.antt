@@ -1,8 +1,8 @@
 use Rattle.std.proofs.Common.{ℕ, Some, sym, subst, ◌∙◌}
-use Rattle.one_log.specs.Follows.{Known}
-use Rattle.gw_ends.specs.Ends.{is_write_fault}
-use Rattle.gw_ends.specs.declared.sent.Sending.{Sending}
-use Rattle.gw_shared.specs.Turn.{Pass}
+use Rattle.run_log.specs.Follows.{Known}
+use Rattle.run_ends.specs.Ends.{is_write_fault}
+use Rattle.run_ends.specs.declared.sent.Sending.{Sending}
+use Rattle.run_shared.specs.Turn.{Pass}
 use Rattle.gw_threads.specs.Sends.{SentAll, TellsOutstationLoss}
 use Rattle.gw_threads.proofs.Requesting.{sent_loss}
 use Rattle.gw_threads.proofs.outstation_writing.OutstationWriter.turn.Goals as goal

@@ -1,6 +1,6 @@
 use Rattle.std.proofs.Common.{ℕ, false, Some, refl, sym, subst, ◌∙◌}
-use Rattle.gw_ends.specs.Ends.{is_write_fault}
-use Rattle.gw_shared.specs.Roles.{IsOne}
+use Rattle.run_ends.specs.Ends.{is_write_fault}
+use Rattle.run_shared.specs.Roles.{IsOne}
 use Rattle.gw_threads.specs.Sends.{SentAll, TellsOutstationLoss}
 use Rattle.gw_threads.proofs.Requesting.{sent_none, sent_own, sent_then}
 use Rattle.gw_threads.proofs.outstation_writing.OutstationWriter.write_on.Goals as goal

@@ -1,5 +1,5 @@
 use Rattle.std.proofs.Common.{subst}
-use Rattle.gw_ends.specs.PutOut.{IsGathered}
+use Rattle.run_ends.specs.PutOut.{IsGathered}
 use Rattle.gw_threads.specs.Written.{Asking, GivesTo}
 use Rattle.gw_threads.proofs.Gathering.{asking, gathered-by}
 use Rattle.gw_threads.proofs.source.ClientWriterSource.gather.Goals as goal

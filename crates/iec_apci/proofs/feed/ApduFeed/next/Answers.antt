@@ -1,5 +1,5 @@
 use Rattle.std.proofs.Common.{ap}
-use Rattle.gw_octets.specs.Queue.{Queue}
+use Rattle.gw_model.specs.Queue.{Queue}
 use Rattle.iec_apci.proofs.Held.{shown_left, taken_left, held_behind}
 use Rattle.iec_apci.proofs.feed.ApduFeed.next.Goals as goal
 

@@ -4,8 +4,8 @@ use Rattle.gw_steps.specs.declared.step.Step.TheVariants.{Pump}
 use Rattle.gw_steps.specs.declared.step.Reply.{Reply}
 use Rattle.gw_steps.specs.declared.step.StepFault.{StepFault}
 use Rattle.gw_steps.specs.Steps.{Allowed}
-use Rattle.gw_ends.specs.PutOut.{Gave, Given}
-use Rattle.gw_ends.proofs.Runs.{gave-one}
+use Rattle.run_ends.specs.PutOut.{Gave, Given}
+use Rattle.run_ends.proofs.Runs.{gave-one}
 use Rattle.test_tools.proofs.machine_source.MachineSourceSource.gather.Goals as goal
 
 pub returns-in-Some : goal.returns-in-Some

@@ -1,0 +1,11 @@
+use Rattle.cmd_line.proofs.reading.recording_command.Goals as goal
+
+pub returns-clause-app : goal.returns-clause-app
+returns-clause-app c =
+    c.with_argument.ensures.app _ _
+    (c.with_argument-command.ensures.app _ _ c.run_command.ensures.app c.text_argument-folder.ensures.rule)
+    c.number_argument-keep.ensures.rule
+
+pub returns-clause-local : goal.returns-clause-local
+returns-clause-local c =
+    c.with_argument.ensures.local (c.with_argument-command.ensures.local c.run_command.ensures.local)

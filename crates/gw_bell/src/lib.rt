@@ -1,6 +1,0 @@
-//! What wakes a worker that found nothing to do.
-#![tactic(auto)]
-
-mod bell;
-
-pub use bell::Bell;

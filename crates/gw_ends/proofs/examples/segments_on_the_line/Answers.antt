@@ -1,5 +1,0 @@
-use Rattle.gw_ends.proofs.Worked.{took_in_turn}
-use Rattle.gw_ends.proofs.examples.segments_on_the_line.Goals as goal
-
-pub returns-clause-took : goal.returns-clause-took
-returns-clause-took c = took_in_turn

@@ -1,4 +1,0 @@
-use Rattle.gw_http.proofs.answering.message.Goals as goal
-
-pub returns : goal.returns
-returns c = rw c.sent_of-sent.ensures at c.in_ok-text.ensures.ok

@@ -1,4 +1,0 @@
-pub mod FrontLaws
-pub mod InputLines
-pub mod PositionLaws
-pub mod AnsweringLaws

@@ -1,4 +1,0 @@
-pub mod Front
-pub mod Lines
-pub mod Reading
-pub mod Status

@@ -1,5 +1,0 @@
-use Rattle.gw_laws.proofs.Kept.{keeps_connections}
-use Rattle.gw_laws.proofs.laws.connections_are_kept.Goals as goal
-
-pub returns : goal.returns
-returns c = λ setup past run. keeps_connections setup past run

@@ -1,5 +1,0 @@
-use Rattle.gw_laws.proofs.Promised.{keeps_promises}
-use Rattle.gw_laws.proofs.laws.runs_keep_promises.Goals as goal
-
-pub returns : goal.returns
-returns c = λ setup past run. keeps_promises setup past run

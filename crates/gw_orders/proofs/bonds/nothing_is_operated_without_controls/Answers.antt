@@ -1,5 +1,0 @@
-use Rattle.gw_orders.proofs.Bonded.{without_controls}
-use Rattle.gw_orders.proofs.bonds.nothing_is_operated_without_controls.Goals as goal
-
-pub returns : goal.returns
-returns c = λ setup past none run sound. without_controls setup past none run sound

@@ -1,5 +1,0 @@
-use Rattle.gw_orders.proofs.Bonded.{operated_once}
-use Rattle.gw_orders.proofs.bonds.orders_are_operated_once.Goals as goal
-
-pub returns : goal.returns
-returns c = λ setup past given. operated_once setup past given

@@ -1,5 +1,0 @@
-use Rattle.gw_orders.proofs.Bonded.{told_once}
-use Rattle.gw_orders.proofs.bonds.outcomes_are_of_executes.Goals as goal
-
-pub returns : goal.returns
-returns c = λ setup past given. told_once setup past given

@@ -1,4 +1,0 @@
-pub mod Confirmed
-pub mod Confirms
-pub mod Frames
-pub mod Heard

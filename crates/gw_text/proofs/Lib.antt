@@ -1,2 +1,0 @@
-pub mod HexLaws
-pub mod DecimalLaws

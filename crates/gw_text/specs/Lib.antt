@@ -1,3 +1,0 @@
-pub mod Hex
-pub mod Decimal
-pub mod Text

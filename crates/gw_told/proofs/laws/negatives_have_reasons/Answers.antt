@@ -1,5 +1,0 @@
-use Rattle.gw_told.proofs.Refused.{reasons_told}
-use Rattle.gw_told.proofs.laws.negatives_have_reasons.Goals as goal
-
-pub returns : goal.returns
-returns c = λ setup past run. reasons_told setup past

@@ -1,5 +1,0 @@
-use Rattle.gw_told.proofs.Asleep.{nobody_asleep}
-use Rattle.gw_told.proofs.laws.nobody_is_left_asleep.Goals as goal
-
-pub returns : goal.returns
-returns c = λ setup past run. nobody_asleep setup past

@@ -1,5 +1,0 @@
-use Rattle.gw_told.proofs.Replied.{fates_replied}
-use Rattle.gw_told.proofs.laws.replies_tell_fates.Goals as goal
-
-pub returns : goal.returns
-returns c = λ setup past run short. fates_replied setup past run short

@@ -1,0 +1,198 @@
+//! The slots of clients.
+
+use gw_model::Memory;
+use run_journal::LineBudget;
+use std::alloc::Global;
+use std::net::{SocketAddr, TcpStream};
+use std::sync::{Condvar, Mutex, Wait};
+
+/// A connection of a client that was accepted.
+#[derive(Drop)]
+pub struct AcceptedClient {
+    pub stream: TcpStream,
+    pub address: SocketAddr,
+}
+
+/// One slot.
+#[derive(Drop)]
+enum Slot {
+    /// Its workers haven't come back from their last client.
+    Taken,
+    /// No client has it.
+    Free,
+    /// Its workers are to serve this client.
+    Given(AcceptedClient),
+}
+
+/// What lies under the lock of the slots.
+#[derive(Drop)]
+struct SlotTable {
+    slots: Vec<Slot>,
+    /// No further client is accepted.
+    ended: bool,
+    /// No further client comes.
+    closed: bool,
+    /// It was told that all are taken, and not that one is free since.
+    is_told: bool,
+    /// How often all were taken until one was free, and it wasn't told.
+    left_out: u64,
+    lines: LineBudget,
+}
+
+/// Where clients wait for the workers of the slot that they were given, which is the lowest that is free.
+#[derive(Drop)]
+pub struct Slots {
+    table: Mutex<SlotTable>,
+    changed: Condvar,
+}
+
+impl Slots {
+    /// So many slots, all free: their workers come before anybody is accepted, or find whom they were given.
+    pub fn new(alloc: Global, count: u8) -> Result<Slots, Memory> {
+        let mut slots = Vec::with_capacity(alloc, usize::from(count))?;
+        for _ in 0..count {
+            slots.push(Slot::Free)?;
+        }
+        Ok(Slots {
+            table: Mutex::new(SlotTable {
+                slots,
+                ended: false,
+                closed: false,
+                is_told: false,
+                left_out: 0,
+                lines: LineBudget::new(),
+            }),
+            changed: Condvar::new(),
+        })
+    }
+
+    /// The lowest slot that is free. It stays so until it is given.
+    pub fn free_slot<R: Wait>(&self, rt: &R) -> Option<u8> {
+        self.table.lock(rt).free_slot()
+    }
+
+    /// Gives a client a slot that is free. Where it is to be told that none is then, at a time, how often that wasn't
+    /// told before.
+    pub fn assign<R: Wait>(
+        &self,
+        rt: &R,
+        slot: u8,
+        client: AcceptedClient,
+        wall: u64,
+    ) -> Option<u64> {
+        let told = self.table.lock(rt).give(slot, client, wall);
+        self.changed.notify_all();
+        told
+    }
+
+    /// Where it is to be told that no slot is free, at a time, how often that wasn't told before.
+    pub fn taken<R: Wait>(&self, rt: &R, wall: u64) -> Option<u64> {
+        self.table.lock(rt).taken(wall)
+    }
+
+    /// No further client is accepted.
+    pub fn end<R: Wait>(&self, rt: &R) {
+        self.table.lock(rt).ended = true;
+        self.changed.notify_all();
+    }
+
+    /// Whether no further client is accepted.
+    pub fn has_ended<R: Wait>(&self, rt: &R) -> bool {
+        self.table.lock(rt).ended
+    }
+
+    /// No further client comes.
+    pub fn close<R: Wait>(&self, rt: &R) {
+        self.table.lock(rt).closed = true;
+        self.changed.notify_all();
+    }
+
+    /// The workers of a slot are there again; whether it is to be told, at a time, that a slot is free.
+    pub fn free<R: Wait>(&self, rt: &R, slot: u8, wall: u64) -> bool {
+        let is_told = self.table.lock(rt).free(slot, wall);
+        self.changed.notify_all();
+        is_told
+    }
+
+    /// The workers of a slot wait for their next client; none where no further one comes.
+    pub fn next<R: Wait>(&self, rt: &R, slot: u8) -> Option<AcceptedClient> {
+        let mut table = self
+            .changed
+            .wait_while(rt, self.table.lock(rt), |table| table.is_idle(slot));
+        table.take(slot)
+    }
+}
+
+impl SlotTable {
+    fn has_free(&self) -> bool {
+        self.slots.iter().any(|slot| matches!(slot, Slot::Free))
+    }
+
+    /// The workers of a slot are there; a client that it was given already stays. Whether it is to be told that a slot
+    /// is free: where it was told that none was.
+    fn free(&mut self, slot: u8, wall: u64) -> bool {
+        let was_full = !self.closed && !self.has_free();
+        match self.slots.get_mut(usize::from(slot)) {
+            Some(slot) if matches!(slot, Slot::Taken) => {
+                *slot = Slot::Free;
+                was_full && self.untake(wall)
+            }
+            _ => false,
+        }
+    }
+
+    /// A slot is free, and none was. Whether that is to be told.
+    fn untake(&mut self, wall: u64) -> bool {
+        let was_told = self.is_told;
+        self.is_told = false;
+        if was_told {
+            self.lines.spend(wall);
+        } else {
+            self.left_out = self.left_out.saturating_add(1);
+        }
+        was_told
+    }
+
+    /// Where it is to be told that no slot is free, how often that wasn't told before.
+    fn taken(&mut self, wall: u64) -> Option<u64> {
+        if self.has_free() || self.is_told || !self.lines.take(wall) {
+            return None;
+        }
+        self.is_told = true;
+        Some(std::mem::replace(&mut self.left_out, 0))
+    }
+
+    /// The lowest slot that is free.
+    fn free_slot(&self) -> Option<u8> {
+        let slot = self
+            .slots
+            .iter()
+            .position(|slot| matches!(slot, Slot::Free))?;
+        u8::try_from(slot).ok()
+    }
+
+    /// Gives a client a slot. Where it is to be told that none is free then, how often that wasn't told before.
+    fn give(&mut self, slot: u8, client: AcceptedClient, wall: u64) -> Option<u64> {
+        if let Some(slot) = self.slots.get_mut(usize::from(slot)) {
+            *slot = Slot::Given(client);
+        }
+        self.taken(wall)
+    }
+
+    /// Whether the workers of a slot have nothing to do yet.
+    fn is_idle(&self, slot: u8) -> bool {
+        match self.slots.get(usize::from(slot)) {
+            Some(Slot::Given(_)) | None => false,
+            Some(Slot::Free | Slot::Taken) => !self.closed,
+        }
+    }
+
+    /// The client that a slot was given, if it was.
+    fn take(&mut self, slot: u8) -> Option<AcceptedClient> {
+        let slot = self.slots.get_mut(usize::from(slot))?;
+        match std::mem::replace(slot, Slot::Taken) {
+            Slot::Given(client) => Some(client),
+            Slot::Free | Slot::Taken => None,
+        }
+    }
+}

@@ -1,0 +1,5 @@
+pub mod Accepting
+pub mod Counts
+pub mod Kept
+pub mod Recorded
+pub mod Recording
