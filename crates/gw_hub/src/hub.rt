@@ -11,7 +11,7 @@ ghost use Rattle.gw_model.specs.Places.{change};
 ghost use Rattle.gw_steps.specs.Controls.{order_due};
 ghost use Rattle.gw_steps.specs.Steps.{can_order, can_rise, client_up, command_of, is_accepting, is_beginning};
 ghost use Rattle.gw_steps.specs.Steps.{is_ordering, latest, one_if, order_ended, reply_of_event};
-ghost use Rattle.gw_steps.specs.Runs.{history, state_after, AtEach, IsRun};
+ghost use Rattle.gw_steps.specs.Runs.{history, state_after, IsRun, KeepsAtEach};
 ghost use Rattle.law_history.specs.Premises.{HasKnownRows, IsSoundRun, IsSoundSetup};
 ghost use Rattle.law_clients.specs.Connections.{Connections};
 ghost use Rattle.law_clients.specs.Promises.{Promises};
@@ -212,18 +212,18 @@ impl Hub {
         ensures run { IfOk result (λ run. IsRun settings (history [] steps.items run.1.items)) }
         ensures state { IfOk result (λ run.
             run.0.state ≡ state_after settings (history [] steps.items run.1.items)) }
-        ensures promises { IfOk result (λ run. AtEach (Promises settings) (history [] steps.items run.1.items)) }
-        ensures bonds { IfOk result (λ run. AtEach (Bonds settings) (history [] steps.items run.1.items)) }
-        ensures outcomes { IfOk result (λ run. AtEach (TellsOnce settings) (history [] steps.items run.1.items)) }
-        ensures due { IfOk result (λ run. AtEach (TellsDue settings) (history [] steps.items run.1.items)) }
-        ensures fates { IfOk result (λ run. AtEach (HasOneFateEach settings) (history [] steps.items run.1.items)) }
-        ensures told { IfOk result (λ run. AtEach (TellsFates settings) (history [] steps.items run.1.items)) }
-        ensures tells { IfOk result (λ run. AtEach (Tells settings) (history [] steps.items run.1.items)) }
+        ensures promises { IfOk result (λ run. KeepsAtEach (Promises settings) steps.items run.1.items) }
+        ensures bonds { IfOk result (λ run. KeepsAtEach (Bonds settings) steps.items run.1.items) }
+        ensures outcomes { IfOk result (λ run. KeepsAtEach (TellsOnce settings) steps.items run.1.items) }
+        ensures due { IfOk result (λ run. KeepsAtEach (TellsDue settings) steps.items run.1.items) }
+        ensures fates { IfOk result (λ run. KeepsAtEach (HasOneFateEach settings) steps.items run.1.items) }
+        ensures told { IfOk result (λ run. KeepsAtEach (TellsFates settings) steps.items run.1.items) }
+        ensures tells { IfOk result (λ run. KeepsAtEach (Tells settings) steps.items run.1.items) }
         ensures commands { IfOk result (λ run.
-            AtEach (AnswersCommands settings) (history [] steps.items run.1.items)) }
-        ensures requests { IfOk result (λ run. AtEach (Requests settings) (history [] steps.items run.1.items)) }
+            KeepsAtEach (AnswersCommands settings) steps.items run.1.items) }
+        ensures requests { IfOk result (λ run. KeepsAtEach (Requests settings) steps.items run.1.items) }
         ensures connections { IfOk result (λ run.
-            AtEach (Connections settings) (history [] steps.items run.1.items)) }
+            KeepsAtEach (Connections settings) steps.items run.1.items) }
     {
         let mut hub = Hub::new(alloc, settings)?;
         let replies = hub.make(&steps)?;

@@ -39,3 +39,7 @@ IsRun setup (e ∷ past) =
 abbrev pub AtEach : (List Entry → Type 0) → List Entry → Type 0
 AtEach P [] = P []
 AtEach P (e ∷ past) = P (e ∷ past) × AtEach P past
+
+-- at each point of the run that steps with these replies are, from the first state
+abbrev pub KeepsAtEach : (List Entry → Type 0) → List Step → List (Result Reply StepFault) → Type 0
+KeepsAtEach P steps replies = AtEach P (history [] steps replies)
