@@ -1,6 +1,6 @@
 //! One slot for clients: its workers, client after client.
-ghost use Rattle.std.specs.Thread.{IsSend, IsSync};
 
+use crate::beside::beside;
 use crate::ending::Ending;
 use crate::passes::{Passes, PumpPass};
 use crate::server::{Server, is_made};
@@ -15,7 +15,6 @@ use run_peers::{Reporter, shut};
 use std::net::TcpStream;
 use std::rt::Clock as Sleeps;
 use std::sync::Wait;
-use std::thread;
 
 /// The passes of the workers of a slot for clients.
 pub type ClientPasses<L> = Passes<L, PumpPass<L>>;
@@ -95,24 +94,14 @@ fn exchange<
     passes: ClientPasses<L>,
 ) -> (ClientPasses<L>, Cause) {
     let Passes { reader, writer } = passes;
-    let ((reader, read), (writer, written)) = thread::scope(
-        thread::scope_env(),
+    let ((writer, written), (reader, read), is_begun) = beside(
         server.reporter.rt,
-        move |scope| -> ((Pass<L>, WorkerEnd), (PumpPass<L>, WorkerEnd))
-            requires { IsSend L.row × IsSync L.row × IsSync S.row × IsSync R.row × IsSync C.row × IsSync G.row }
-        {
-            let writing = scope.spawn(move || connection.write(server, writer));
-            if writing.is_err() {
-                // No thread can be made: the reader finds the connection shut, and the writer its peer down.
-                connection.end_writer();
-            }
-            let read = connection.read(server, reader);
-            match writing {
-                Ok(thread) => (read, thread.join(server.reporter.rt)),
-                Err(refused) => (read, ((refused.value)().0, WorkerEnd::Memory)),
-            }
-        },
+        move || connection.write(server, writer),
+        // The reader finds the connection shut, and the writer its peer down.
+        || connection.end_writer(),
+        move || connection.read(server, reader),
     );
+    let written = if is_begun { written } else { WorkerEnd::Memory };
     let cause = connection.ending.cause(read, written);
     (Passes { reader, writer }, cause)
 }

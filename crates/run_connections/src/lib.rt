@@ -2,6 +2,7 @@
 //! connection has a reader and a writer, each in a thread of its own, and ends once both have; an operator is told why.
 #![tactic(auto)]
 
+mod beside;
 mod client;
 mod ending;
 mod outstation;

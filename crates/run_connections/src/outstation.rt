@@ -1,7 +1,7 @@
 //! One outstation: its workers, connection after connection.
 ghost use Rattle.std.specs.Prelude.{◌≡◌, false, None};
-ghost use Rattle.std.specs.Thread.{IsSend, IsSync};
 
+use crate::beside::beside;
 use crate::ending::Ending;
 use crate::passes::{Passes, PollPass};
 use crate::server::{Server, is_made};
@@ -19,7 +19,6 @@ use std::marker::Brand;
 use std::net::{TcpStream, ToSocketAddrs};
 use std::rt::Clock as Sleeps;
 use std::sync::Wait;
-use std::thread;
 
 /// The passes of an outstation's workers.
 pub type OutstationPasses<L> = Passes<L, PollPass<L>>;
@@ -109,25 +108,14 @@ fn exchange<
     passes: OutstationPasses<L>,
 ) -> (OutstationPasses<L>, Cause) {
     let Passes { reader, writer } = passes;
-    let ((reader, read), (writer, written)) = thread::scope(
-        thread::scope_env(),
+    let ((writer, written), (reader, read), is_begun) = beside(
         server.reporter.rt,
-        move |scope| -> ((Pass<L>, WorkerEnd), (PollPass<L>, WorkerEnd))
-            requires { IsSend L.row × IsSync L.row × IsSend N.row × IsSync N.row
-                × IsSync S.row × IsSync R.row × IsSync C.row × IsSync G.row }
-        {
-            let writing = scope.spawn(move || connection.write(server, writer));
-            if writing.is_err() {
-                // No thread can be made: the reader finds the connection shut, and the writer its peer down.
-                connection.end_writer();
-            }
-            let read = connection.read(server, reader);
-            match writing {
-                Ok(thread) => (read, thread.join(server.reporter.rt)),
-                Err(refused) => (read, ((refused.value)().0, WorkerEnd::Memory)),
-            }
-        },
+        move || connection.write(server, writer),
+        // The reader finds the connection shut, and the writer its peer down.
+        || connection.end_writer(),
+        move || connection.read(server, reader),
     );
+    let written = if is_begun { written } else { WorkerEnd::Memory };
     let cause = connection.ending.cause(read, written);
     (Passes { reader, writer }, cause)
 }
