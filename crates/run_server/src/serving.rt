@@ -114,12 +114,26 @@ pub fn serve_as<R: System, C: Clock + Sync, G: Gate + Sync>(
         peers: &peers,
         journal,
     };
-    let opening = opening_of(alloc, settings, source.outstations())?;
+    serve_settings(&reporter, &source, settings, gate)
+}
+
+/// The same, with what is known of peers.
+fn serve_settings<R: System, C: Clock + Sync, G: Gate + Sync>(
+    reporter: &Reporter<'_, R, C>,
+    source: &StatusSource<'_>,
+    settings: Settings,
+    gate: &G,
+) -> Result<Closed, Memory>
+    ensures { IfOk result (λ closed. IsKeptRun settings closed.total) }
+{
+    let opening = opening_of(reporter.alloc, settings, source.outstations())?;
     let blank = Blank::new(opening.actors as u64);
-    let Some(history) = open_course() else {
-        return Err(Memory);
-    };
-    serve_with::<Brand, Hub, R, C, G>(&reporter, &source, blank, history, opening, gate)
+    match open_course() {
+        Some(history) => {
+            serve_with::<Brand, Hub, R, C, G>(reporter, source, blank, history, opening, gate)
+        }
+        None => Err(Memory),
+    }
 }
 
 /// The links to the outstations, and what is known of each of them and of each client, at a moment; with the points where
