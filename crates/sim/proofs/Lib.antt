@@ -1,0 +1,2 @@
+pub mod Anybody
+pub mod Rests
