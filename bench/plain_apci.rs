@@ -1,4 +1,4 @@
-//! The bare work of `bench_apci COUNT LENGTH`, as a plain loop: the same octets are written, and read back by looking
+//! The bare work of `bench_layers COUNT LENGTH`, as a plain loop: the same octets are written, and read back by looking
 //! for the start octet and the length, copying the ASDU out and decoding N(S) and N(R). It prints the same.
 
 use std::hint::black_box;

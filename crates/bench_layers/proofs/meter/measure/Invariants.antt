@@ -1,6 +1,6 @@
 use Rattle.std.proofs.Common.{◌<◌, vec_len}
-use Rattle.bench_link.proofs.Metering.{IsRead}
-use Rattle.bench_link.proofs.meter.measure.Given as goal
+use Rattle.bench_layers.proofs.Metering.{IsRead}
+use Rattle.bench_layers.proofs.meter.measure.Given as goal
 
 -- what was read so far is counted, and there is room for more
 abbrev pub invariant-loop : goal.invariant-loop

@@ -2,8 +2,8 @@
 ghost use Rattle.std.specs.Prelude.{◌≡◌, ◌+◌, ◌∷◌, [], None, IfOk, IfSome, OnOk};
 ghost use Rattle.dnp_link.specs.FrameContent.{event_content};
 ghost use Rattle.dnp_link.specs.Stream.{reading};
-ghost use Rattle.bench_link.specs.Counts.{counts_of};
-ghost use Rattle.bench_link.specs.Meter.{Meters};
+ghost use Rattle.bench_layers.specs.Counts.{counts_of};
+ghost use Rattle.bench_layers.specs.Meter.{Meters};
 
 use dnp_link::{LinkEvent, LinkFeed};
 use dnp_transport::{Assembler, Taken};

@@ -9,9 +9,9 @@ use Rattle.dnp_link.proofs.Streams.{reading-append}
 use Rattle.dnp_transport.specs.Fragment.{fragments_of}
 use Rattle.dnp_transport.specs.Runs.{answers_from, series_after, fragment_in, fragments_in}
 use Rattle.dnp_transport.proofs.WholeRuns.{answers_from-append, series_after-append, whole}
-use Rattle.bench_link.specs.declared.meter.Meter.{Meter}
-use Rattle.bench_link.specs.Counts.{segment_in, segments_in, counts_of}
-use Rattle.bench_link.specs.Meter.{Meters}
+use Rattle.bench_layers.specs.declared.meter.Meter.{Meter}
+use Rattle.bench_layers.specs.Counts.{segment_in, segments_in, counts_of}
+use Rattle.bench_layers.specs.Meter.{Meters}
 
 -- no event at all
 pub meters_nothing : (m : Meter) → Meters m m []

@@ -2,7 +2,7 @@
 use Rattle.std.specs.Prelude.{ℕ, List, length, Option, Some, None, filter_map}
 use Rattle.dnp_link.specs.Stream.{Event, Framed, Dropped, reading}
 use Rattle.dnp_transport.specs.Fragment.{fragments_of}
-use Rattle.bench_link.specs.declared.meter.Counts.{Counts}
+use Rattle.bench_layers.specs.declared.meter.Counts.{Counts}
 
 -- the segment that the frame carries, if the event is one
 abbrev pub segment_in : Event → Option (List ℕ)

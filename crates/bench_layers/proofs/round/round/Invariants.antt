@@ -1,5 +1,5 @@
 use Rattle.std.proofs.Common.{◌-◌}
-use Rattle.bench_apci.proofs.round.round.Given as goal
+use Rattle.bench_layers.proofs.round.round.Given as goal
 
 -- how many APDUs are left
 abbrev pub decreases-loop-first : goal.decreases-loop-first

@@ -2,8 +2,8 @@
 use Rattle.std.specs.Prelude.{◌≡◌, ◌+◌, List, length}
 use Rattle.dnp_link.specs.Stream.{Event}
 use Rattle.dnp_transport.specs.Runs.{answers_from, series_after, fragments_in}
-use Rattle.bench_link.specs.declared.meter.Meter.{Meter}
-use Rattle.bench_link.specs.Counts.{segments_in}
+use Rattle.bench_layers.specs.declared.meter.Meter.{Meter}
+use Rattle.bench_layers.specs.Counts.{segments_in}
 
 -- the old meter has taken these events: its assembler has taken their segments, and the events and the fragments
 -- that the assembler gave were counted

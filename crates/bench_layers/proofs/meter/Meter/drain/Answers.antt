@@ -2,8 +2,8 @@ use Rattle.std.proofs.Common.{◌≡◌, ◌∙◌, ℕ, List, Option, ap, sym, 
 use Rattle.dnp_link.specs.declared.event.LinkEvent.{LinkEvent}
 use Rattle.dnp_link.specs.FrameContent.{event_content_if}
 use Rattle.dnp_link.specs.Stream.{Reading, reading, reading_with_front}
-use Rattle.bench_link.proofs.Metering.{event_taken, all_taken}
-use Rattle.bench_link.proofs.meter.Meter.drain.Goals as goal
+use Rattle.bench_layers.proofs.Metering.{event_taken, all_taken}
+use Rattle.bench_layers.proofs.meter.Meter.drain.Goals as goal
 
 -- what a feed shows goes on by its next event
 abbrev reads_by : List ℕ → List ℕ → Option LinkEvent → Type 0

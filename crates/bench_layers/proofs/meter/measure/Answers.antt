@@ -1,7 +1,7 @@
 use Rattle.std.proofs.Common.{◌≡◌, ◌+◌, ◌++◌, take, ◌∙◌, ap, arith}
 use Rattle.std.proofs.lemmas.List.{take_at}
-use Rattle.bench_link.proofs.Metering.{nothing_read, read_more, all_read, of_ok, consumes_none}
-use Rattle.bench_link.proofs.meter.measure.Goals as goal
+use Rattle.bench_layers.proofs.Metering.{nothing_read, read_more, all_read, of_ok, consumes_none}
+use Rattle.bench_layers.proofs.meter.measure.Goals as goal
 
 pub loop-init : goal.loop-init
 loop-init g c =

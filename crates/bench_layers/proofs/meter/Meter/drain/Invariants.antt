@@ -1,7 +1,7 @@
 use Rattle.std.proofs.Common.{◌≡◌, length}
 use Rattle.dnp_link.specs.Stream.{reading}
-use Rattle.bench_link.proofs.Metering.{Completes}
-use Rattle.bench_link.proofs.meter.Meter.drain.Given as goal
+use Rattle.bench_layers.proofs.Metering.{Completes}
+use Rattle.bench_layers.proofs.meter.Meter.drain.Given as goal
 
 -- the events that are left complete all
 abbrev pub invariant-loop-event : goal.invariant-loop-event
