@@ -2,7 +2,7 @@
 
 use crate::network::Network;
 use std::io::Stdin;
-use std::net::{IpAddr, TcpListener};
+use std::net::TcpListener;
 
 /// What accepts clients: which of them, how many, and until when.
 #[derive(Clone, Copy)]
@@ -15,11 +15,4 @@ pub struct Acceptor<'a> {
     pub allow: &'a [Network],
     /// Standard input, where none is accepted any more once that ends.
     pub until_eof: Option<Stdin>,
-}
-
-impl<'a> Acceptor<'a> {
-    /// Whether a client may come from an address.
-    pub fn allows(&self, address: IpAddr) -> bool {
-        self.allow.is_empty() || self.allow.iter().any(|network| network.has(address))
-    }
 }

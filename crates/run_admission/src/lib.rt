@@ -3,6 +3,7 @@
 
 mod accepting;
 mod acceptor;
+mod client_stream;
 mod input;
 mod listener;
 mod network;
@@ -10,8 +11,9 @@ mod refusals;
 mod slots;
 mod waiting_clients;
 
-pub use accepting::accept;
+pub use accepting::{Accepting, AwaitedClient, accept};
 pub use acceptor::Acceptor;
+pub use client_stream::ClientStream;
 pub use input::await_end;
 pub use listener::look_up_from_accept;
 pub use network::Network;

@@ -42,6 +42,11 @@ impl Network {
     }
 }
 
+/// Whether a client may come from an address, where these are allowed; from everywhere where none is named.
+pub(crate) fn allows(networks: &[Network], address: IpAddr) -> bool {
+    networks.is_empty() || networks.iter().any(|network| network.has(address))
+}
+
 /// How many bits an address has.
 fn width(address: IpAddr) -> u8 {
     match address {

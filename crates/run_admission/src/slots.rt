@@ -1,5 +1,6 @@
 //! The slots of clients.
 
+use crate::client_stream::ClientStream;
 use gw_model::Memory;
 use run_journal::LineBudget;
 use std::alloc::Global;
@@ -8,26 +9,26 @@ use std::sync::{Condvar, Mutex, Wait};
 
 /// A connection of a client that was accepted.
 #[derive(Drop)]
-pub struct AcceptedClient {
-    pub stream: TcpStream,
+pub struct AcceptedClient<T = TcpStream> {
+    pub stream: T,
     pub address: SocketAddr,
 }
 
 /// One slot.
 #[derive(Drop)]
-enum Slot {
-    /// Its workers haven't come back from their last client.
-    Taken,
+enum Slot<T> {
+    /// Its workers haven't come back from their last client, whose connection this is a second handle of.
+    Taken(Option<T>),
     /// No client has it.
     Free,
     /// Its workers are to serve this client.
-    Given(AcceptedClient),
+    Given(AcceptedClient<T>),
 }
 
 /// What lies under the lock of the slots.
 #[derive(Drop)]
-struct SlotTable {
-    slots: Vec<Slot>,
+struct SlotTable<T> {
+    slots: Vec<Slot<T>>,
     /// No further client is accepted.
     ended: bool,
     /// No further client comes.
@@ -41,14 +42,14 @@ struct SlotTable {
 
 /// Where clients wait for the workers of the slot that they were given, which is the lowest that is free.
 #[derive(Drop)]
-pub struct Slots {
-    table: Mutex<SlotTable>,
+pub struct Slots<T = TcpStream> {
+    table: Mutex<SlotTable<T>>,
     changed: Condvar,
 }
 
-impl Slots {
+impl<T: ClientStream + Drop> Slots<T> {
     /// So many slots, all free: their workers come before anybody is accepted, or find whom they were given.
-    pub fn new(alloc: Global, count: u8) -> Result<Slots, Memory> {
+    pub fn new(alloc: Global, count: u8) -> Result<Slots<T>, Memory> {
         let mut slots = Vec::with_capacity(alloc, usize::from(count))?;
         for _ in 0..count {
             slots.push(Slot::Free)?;
@@ -77,7 +78,7 @@ impl Slots {
         &self,
         rt: &R,
         slot: u8,
-        client: AcceptedClient,
+        client: AcceptedClient<T>,
         wall: u64,
     ) -> Option<u64> {
         let told = self.table.lock(rt).give(slot, client, wall);
@@ -115,15 +116,45 @@ impl Slots {
     }
 
     /// The workers of a slot wait for their next client; none where no further one comes.
-    pub fn next<R: Wait>(&self, rt: &R, slot: u8) -> Option<AcceptedClient> {
+    pub fn next<R: Wait>(&self, rt: &R, slot: u8) -> Option<AcceptedClient<T>> {
         let mut table = self
             .changed
             .wait_while(rt, self.table.lock(rt), |table| table.is_idle(slot));
         table.take(slot)
     }
+
+    /// The client that a slot was given and whose workers don't serve it yet, if there is one.
+    pub fn given<R: Wait>(&self, rt: &R, slot: u8) -> Option<AcceptedClient<T>> {
+        self.table.lock(rt).take_given(slot)
+    }
+
+    /// Shuts the connection of the client that has a slot, if one has it.
+    pub fn shut<R: Wait>(&self, rt: &R, slot: u8) {
+        if let Some(slot) = self.table.lock(rt).slots.get(usize::from(slot)) {
+            slot.shut();
+        }
+    }
+
+    /// Shuts the connections of all clients.
+    pub fn shut_all<R: Wait>(&self, rt: &R) {
+        for slot in &self.table.lock(rt).slots {
+            slot.shut();
+        }
+    }
 }
 
-impl SlotTable {
+impl<T: ClientStream> Slot<T> {
+    /// Shuts the connection of the client that has it, if one has.
+    fn shut(&self) {
+        match self {
+            Slot::Taken(Some(stream)) => stream.shut(),
+            Slot::Given(client) => client.stream.shut(),
+            Slot::Taken(None) | Slot::Free => {}
+        }
+    }
+}
+
+impl<T: ClientStream + Drop> SlotTable<T> {
     fn has_free(&self) -> bool {
         self.slots.iter().any(|slot| matches!(slot, Slot::Free))
     }
@@ -133,7 +164,7 @@ impl SlotTable {
     fn free(&mut self, slot: u8, wall: u64) -> bool {
         let was_full = !self.closed && !self.has_free();
         match self.slots.get_mut(usize::from(slot)) {
-            Some(slot) if matches!(slot, Slot::Taken) => {
+            Some(slot) if matches!(slot, Slot::Taken(_)) => {
                 *slot = Slot::Free;
                 was_full && self.untake(wall)
             }
@@ -172,7 +203,7 @@ impl SlotTable {
     }
 
     /// Gives a client a slot. Where it is to be told that none is free then, how often that wasn't told before.
-    fn give(&mut self, slot: u8, client: AcceptedClient, wall: u64) -> Option<u64> {
+    fn give(&mut self, slot: u8, client: AcceptedClient<T>, wall: u64) -> Option<u64> {
         if let Some(slot) = self.slots.get_mut(usize::from(slot)) {
             *slot = Slot::Given(client);
         }
@@ -183,16 +214,27 @@ impl SlotTable {
     fn is_idle(&self, slot: u8) -> bool {
         match self.slots.get(usize::from(slot)) {
             Some(Slot::Given(_)) | None => false,
-            Some(Slot::Free | Slot::Taken) => !self.closed,
+            Some(Slot::Free | Slot::Taken(_)) => !self.closed,
         }
     }
 
-    /// The client that a slot was given, if it was.
-    fn take(&mut self, slot: u8) -> Option<AcceptedClient> {
+    /// The client that a slot was given, if it was. Its workers are taken from now on.
+    fn take(&mut self, slot: u8) -> Option<AcceptedClient<T>> {
         let slot = self.slots.get_mut(usize::from(slot))?;
-        match std::mem::replace(slot, Slot::Taken) {
-            Slot::Given(client) => Some(client),
-            Slot::Free | Slot::Taken => None,
+        match std::mem::replace(slot, Slot::Taken(None)) {
+            Slot::Given(client) => {
+                *slot = Slot::Taken(client.stream.handle());
+                Some(client)
+            }
+            Slot::Free | Slot::Taken(_) => None,
+        }
+    }
+
+    /// The client that a slot was given, if it was; else the slot stays as it is.
+    fn take_given(&mut self, slot: u8) -> Option<AcceptedClient<T>> {
+        match self.slots.get(usize::from(slot)) {
+            Some(Slot::Given(_)) => self.take(slot),
+            _ => None,
         }
     }
 }

@@ -1,13 +1,12 @@
-//! The connection of the client that has a slot.
+//! What is known of the connection of the client that has a slot.
 
-use crate::tcp::shut;
-use std::net::{IpAddr, SocketAddr, TcpStream};
+use std::net::{IpAddr, SocketAddr};
 
 /// The milliseconds in which a client that has connected, or has stopped data transfer, may be about to start it, and
 /// one that is tested may be about to answer.
 const GRACE_MS: u64 = 1000;
 
-/// The connection of the client that has a slot.
+/// What is known of the connection of the client that has a slot.
 #[derive(Drop)]
 pub struct ClientConnection {
     /// Where it connects from; nowhere where the slot has no client.
@@ -20,8 +19,6 @@ pub struct ClientConnection {
     heard: u64,
     /// The moment at which it was sent a TESTFR act that it hasn't confirmed, if it was.
     tested: Option<u64>,
-    /// A second handle of its connection.
-    stream: Option<TcpStream>,
     /// It asked for data transfer.
     has_started: bool,
     /// It was made to leave.
@@ -39,7 +36,6 @@ impl ClientConnection {
             since: 0,
             heard: 0,
             tested: None,
-            stream: None,
             has_started: false,
             leaves: false,
             has_expired: false,
@@ -47,19 +43,13 @@ impl ClientConnection {
     }
 
     /// A client has it since a moment, behind so many that had connected before.
-    pub fn new(
-        stream: &TcpStream,
-        address: SocketAddr,
-        order: u64,
-        since: u64,
-    ) -> ClientConnection {
+    pub fn new(address: SocketAddr, order: u64, since: u64) -> ClientConnection {
         ClientConnection {
             address: Some(address),
             order,
             since,
             heard: since,
             tested: None,
-            stream: stream.try_clone().ok(),
             has_started: false,
             leaves: false,
             has_expired: false,
@@ -123,12 +113,9 @@ impl ClientConnection {
         }
     }
 
-    /// The client is made to leave: its connection is shut.
+    /// The client is made to leave.
     pub fn leave(&mut self) {
         self.leaves = true;
-        if let Some(stream) = &self.stream {
-            shut(stream);
-        }
     }
 
     /// Whether it was made to leave.

@@ -275,7 +275,7 @@ impl Peers {
         self.clients.get(usize::from(client))
     }
 
-    /// All clients are made to leave.
+    /// All clients are made to leave: whoever has their connections shuts them.
     pub fn dismiss_all<R: Wait>(&self, rt: &R) {
         for record in &self.clients {
             record.dismiss(rt);
@@ -283,21 +283,22 @@ impl Peers {
     }
 
     /// Of the clients from an address that may have to give way at a moment, the one that connected first is made to
-    /// leave its slot; whether one is.
-    pub fn make_room<R: Wait>(&self, rt: &R, address: IpAddr, moment: u64) -> bool {
-        let mut oldest: Option<(u64, &ClientRecord)> = None;
-        for record in &self.clients {
+    /// leave its slot: whoever has its connection shuts that. Which slot it is, if there is one.
+    pub fn make_room<R: Wait>(&self, rt: &R, address: IpAddr, moment: u64) -> Option<u8> {
+        let mut oldest: Option<(u64, u8)> = None;
+        for (slot, record) in (0u8..).zip(&self.clients) {
             if let Some(order) = record.gives_way(rt, address, moment, self.silence_ms) {
                 match oldest {
                     Some((before, _)) if before < order => {}
-                    _ => oldest = Some((order, record)),
+                    _ => oldest = Some((order, slot)),
                 }
             }
         }
-        match oldest {
-            Some((_, record)) => record.make_room(rt, address, moment, self.silence_ms),
-            None => false,
-        }
+        let (_, slot) = oldest?;
+        let gives_way = self
+            .client(slot)?
+            .make_room(rt, address, moment, self.silence_ms);
+        gives_way.then_some(slot)
     }
 }
 

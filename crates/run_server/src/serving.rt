@@ -278,8 +278,7 @@ fn perform_all<
                 server.shared.stop();
                 server.reporter.journal.close(server.reporter.rt);
             }
-            slots.close(server.reporter.rt);
-            end_all(server, source, &mut threads, passes);
+            end_all(server, &slots, source, &mut threads, passes);
             is_complete
         },
     );
@@ -322,15 +321,18 @@ fn start_all<
 /// those of the slots, and the journal's first.
 fn end_all<L: Course, S: Calls<L>, R: System, C: Clock, G>(
     server: &Server<'_, S, R, C, G>,
+    slots: &Slots,
     source: &StatusSource<'_>,
     threads: &mut Vec<JoinHandle<ReturnedPasses<L>>>,
     passes: &mut Vec<Pass<L>>,
 ) {
     let (reporter, shared) = (server.reporter, server.shared);
+    slots.close(reporter.rt);
     if source.acceptor.until_eof.is_some() {
         join_last(reporter.rt, threads, 1, passes);
         shared.stop();
         reporter.peers.dismiss_all(reporter.rt);
+        slots.shut_all(reporter.rt);
     }
     join_last(reporter.rt, threads, usize::from(CLIENTS), passes);
     shared.stop();
