@@ -133,6 +133,7 @@ pub fn faults_by_example()
         (comes (I 1 0 interrogation) 700) ≡ false }
     // What is counted: steps, news and losses, sessions, orders.
     ensures made { count one_step setup (passed started) ≡ 4 }
+    ensures not_made { count one_step setup refused ≡ 0 }
     ensures news { count news_added setup (passed told_twice) ≡ 2 }
     ensures sessions { count sessions_added setup (passed (started ++ comes (U StartAct) 700 ∷ comes (U StopAct) 700
         ∷ comes (U StartAct) 700 ∷ [])) ≡ 2 }

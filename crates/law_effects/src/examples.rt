@@ -2,6 +2,7 @@
 #![tactic(auto, unfolding(iec_command::specs::Commands::command_of, dnp_objects::specs::Headers::headers_from, dnp_objects::specs::Library::object_of))]
 
 ghost use Rattle.std.specs.Prelude.{◌≡◌, [], ◌∷◌, ◌++◌, false, map, Some, None, true};
+ghost use Rattle.gw_steps.specs.declared.step.Step.TheVariants as steps;
 ghost use Rattle.gw_steps.specs.Example.{outstation_down, outstation_up, poll, pump};
 ghost use Rattle.law_effects.specs.Replies.{ended_by_fate};
 ghost use Rattle.law_fates.specs.Example.{answers, done, refused, sets, stops};
@@ -31,6 +32,8 @@ pub fn rousing_by_example()
     ensures early { (told (poll ∷ answer ∷ tick 1999 ∷ [])).due_outstations ≡ [] }
     ensures period { (told (poll ∷ answer ∷ tick 2000 ∷ [])).due_outstations ≡ 0 ∷ [] }
     ensures again { (told (poll ∷ answer ∷ tick 2000 ∷ tick 2000 ∷ [])).due_outstations ≡ 0 ∷ [] }
+    // An order that comes while the integrity poll is due makes nothing due that wasn't.
+    ensures due_before { is_newly_due (sets 0 ∷ []) ≡ false }
     // The outcome of an order may be put out to its client.
     ensures outcome { is_newly_offered (pump ∷ done) ≡ true }
     ensures client { is_client_told (pump ∷ done) ≡ true }
@@ -43,6 +46,8 @@ pub fn lateness_by_example()
     ensures not_yet { is_late (poll ∷ tick 4999 ∷ []) ≡ false }
     ensures late { (told (poll ∷ tick 5000 ∷ [])).unanswered ≡ 0 ∷ [] }
     ensures by_history { is_late (poll ∷ tick 5000 ∷ []) ≡ true }
+    // A step at a later moment came before the tick.
+    ensures by_another { is_late (poll ∷ steps.Poll 0 5000 0 ∷ tick 0 ∷ []) ≡ true }
     ensures once { (told (poll ∷ tick 5000 ∷ tick 5000 ∷ [])).unanswered ≡ [] }
     ensures lost { (told (poll ∷ outstation_down ∷ tick 5000 ∷ [])).unanswered ≡ [] }
 {}

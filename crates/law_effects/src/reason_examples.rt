@@ -1,7 +1,7 @@
 //! Worked runs of what steps tell of commands and of orders, computed by the step relation itself.
 ghost use Rattle.std.specs.Prelude.{◌≡◌, ◌++◌, [], ◌∷◌, map, replicate, Some, None, true, false};
 ghost use Rattle.dnp_app.specs.declared.operation.Operation.TheVariants.{DirectOperate, Operate, Select};
-ghost use Rattle.gw_control.specs.declared.answer.Answer.TheVariants.{Confirm, Negative, Ordered};
+ghost use Rattle.gw_control.specs.declared.answer.Answer.TheVariants.{Confirm, Negative, Ordered, Unknown};
 ghost use Rattle.gw_control.specs.declared.refusal.Refusal.TheVariants.{Qualifier, NoState, OutOfRange};
 ghost use Rattle.gw_control.specs.declared.refusal.Refusal.TheVariants.{OutstationDown, SelectedByAnother};
 ghost use Rattle.gw_control.specs.declared.refusal.Refusal.TheVariants.{NotSelected, UnlikeSelect, NoPlace};
@@ -10,6 +10,7 @@ ghost use Rattle.gw_steps.specs.declared.apdu_kind.ApduKind.TheVariants as kinds
 ghost use Rattle.gw_steps.specs.declared.effects.Fate.TheVariants as fates;
 ghost use Rattle.gw_steps.specs.declared.step.Step.TheVariants as steps;
 ghost use Rattle.gw_steps.specs.Example.{answer, echo, ends, outstation_down, poll};
+ghost use Rattle.law_effects.specs.Refusals.{is_negative};
 ghost use Rattle.law_effects.specs.Reasons.{
   acknowledges,
   answer_behind,
@@ -69,6 +70,7 @@ pub fn refusals_by_example()
     ensures place { refusal_behind (sixteen ++ poll ∷ []) (sends 1 8 set) ≡ None }
     ensures no_place_again { refusal_behind (sixteen ++ poll ∷ sends 1 8 set ∷ []) (sends 0 8 set) ≡ Some NoPlace }
     ensures before_no_place { refusal_behind sixteen (sends 1 8 (switch 1)) ≡ Some NotSelected }
+    ensures negative { map is_negative (Confirm ∷ Negative ∷ Ordered 1 ∷ Unknown ∷ []) ≡ false ∷ true ∷ false ∷ false ∷ [] }
     // A reason is told where the answer is negative, and nowhere else.
     ensures answers { map (λ asdu. answer_behind [] (sends 0 0 asdu)) (switch 0x81 ∷ switch 1 ∷ set ∷ [])
         ≡ Some Confirm ∷ Some Negative ∷ Some (Ordered 1) ∷ [] }

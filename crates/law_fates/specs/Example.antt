@@ -3,7 +3,8 @@
 use Rattle.std.specs.Prelude.{ℕ, Bool, List, [], ◌∷◌, ◌++◌, map}
 use Rattle.std.proofs.Common.{lit≤}
 use Rattle.iec_apci.specs.declared.apdu.Apdu.TheVariants.{I, U}
-use Rattle.iec_apci.specs.declared.apdu.Signal.TheVariants.{StopAct}
+use Rattle.iec_apci.specs.declared.apdu.Asdu.{Asdu}
+use Rattle.iec_apci.specs.declared.apdu.Signal.TheVariants.{StartAct, StopAct}
 use Rattle.dnp_master.specs.Example.{setpoint_answer}
 use Rattle.gw_answers.specs.Example.{asdu_with}
 use Rattle.gw_control.specs.Example.{setup}
@@ -15,15 +16,19 @@ use Rattle.gw_steps.specs.Example.{fragment_of, outstation_up, poll, pump, respo
 use Rattle.gw_steps.specs.Runs.{Entry}
 use Rattle.law_history.specs.Example.{history_of}
 use Rattle.law_fates.specs.Fates.{effects_by}
-use Rattle.law_fates.specs.Told.{told_in}
+use Rattle.law_fates.specs.Told.{due_by_fates, told_in}
+
+-- the set point 5002 is executed with 1000
+abbrev pub set : Asdu
+set = asdu_with (0x31 ∷ 1 ∷ 6 ∷ 0 ∷ 1 ∷ 0 ∷ 0x8A ∷ 0x13 ∷ 0 ∷ 0xE8 ∷ 3 ∷ 0 ∷ []) (lit≤ tt)
 
 -- the client is started and the outstation is up, and then these steps were made
 abbrev pub made : List Step → List Entry
 made ss = history_of setup (starting ++ outstation_up ∷ ss)
 
--- 5002 is to be set to 1000, behind so many I formats
+-- it is to be set, behind so many I formats
 abbrev pub sets : ℕ → Step
-sets ns = steps.Frame 0 (I ns 0 (asdu_with (0x31 ∷ 1 ∷ 6 ∷ 0 ∷ 1 ∷ 0 ∷ 0x8A ∷ 0x13 ∷ 0 ∷ 0xE8 ∷ 3 ∷ 0 ∷ []) (lit≤ tt))) 0
+sets ns = steps.Frame 0 (I ns 0 set) 0
 
 -- the answer to the request of a sequence number, with a status
 abbrev pub answers : ℕ → ℕ → Step
@@ -51,6 +56,10 @@ left = sets 0 ∷ poll ∷ stops ∷ answers 0xC0 0 ∷ poll ∷ answers 0xC1 0 
 abbrev pub closed : List Step
 closed = done ++ pump ∷ pump ∷ sets 1 ∷ steps.Poll 0 10000 0 ∷ steps.Tick 15000 ∷ []
 
+-- client 1 sets it, and leaves before it is asked
+abbrev pub of_another : List Step
+of_another = steps.ClientUp 1 0 ∷ steps.Frame 1 (U StartAct) 0 ∷ steps.Frame 1 (I 0 0 set) 0 ∷ steps.ClientDown 1 0 ∷ []
+
 -- what became of orders in a history, the newest first
 abbrev pub fates : List Entry → List (ℕ × Fate)
 fates [] = []
@@ -60,3 +69,8 @@ fates (e ∷ past) = map (λ (x : OrderEnd). (x.order, x.fate)) (effects_by setu
 abbrev pub told : List Entry → List (ℕ × Bool)
 told [] = []
 told (e ∷ past) = told_in setup past e ++ told past
+
+-- and what it was to be told by their fates
+abbrev pub due : List Entry → List (ℕ × Bool)
+due [] = []
+due (e ∷ past) = due_by_fates setup past e ++ due past

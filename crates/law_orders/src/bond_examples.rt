@@ -1,8 +1,10 @@
 //! Worked runs: what was asked for an order, what was answered, and what its client was told.
-ghost use Rattle.std.specs.Prelude.{◌≡◌, [], ◌∷◌, length, map, true, false};
+ghost use Rattle.std.specs.Prelude.{◌≡◌, [], ◌∷◌, Some, length, map, true, false};
+ghost use Rattle.dnp_app.specs.declared.request.Request.{Request};
 ghost use Rattle.dnp_app.specs.declared.operation.Operation.TheVariants.{Select, Operate, DirectOperate};
 ghost use Rattle.gw_steps.specs.Example.{outstation_down, outstation_up, poll};
 ghost use Rattle.gw_control.specs.Example.{setup};
+ghost use Rattle.law_orders.specs.Bonds.{operation_in, IsBonded};
 ghost use Rattle.law_orders.specs.Executes.{executes};
 ghost use Rattle.law_orders.specs.Marks.{marks, Asked, Answered};
 ghost use Rattle.law_orders.specs.ToldOnce.{told};
@@ -17,6 +19,8 @@ pub fn bonds_by_example()
     ensures executed { length (executes setup (made switched)) ≡ 1 }
     ensures failed { map (λ x. x.done) (told setup (made switched)) ≡ false ∷ [] }
     ensures no_other { marks 2 (made switched) ≡ [] }
+    // OPERATE for an order that nothing was asked for before isn't bound to it.
+    ensures unselected { (r : Request) → operation_in r ≡ Some Operate → IsBonded true (Asked 0 r ∷ []) → ⊥ }
     // A set point by SELECT and OPERATE.
     ensures waits { marks 1 (made (sends 0 set ∷ [])) ≡ [] }
     ensures set { marks 1 (made (selected 0 (poll ∷ operated ∷ poll ∷ []))) ≡ Answered true

@@ -3,7 +3,7 @@ ghost use Rattle.std.specs.Prelude.{◌≡◌, ◌++◌, [], ◌∷◌, Some, No
 ghost use Rattle.gw_control.specs.Example.{setup};
 ghost use Rattle.gw_station.specs.declared.event.Said.TheVariants.{Confirm, Negative, Ordered};
 ghost use Rattle.gw_station.specs.Example.{command, execute};
-ghost use Rattle.gw_steps.specs.Example.{outstation_down, outstation_up};
+ghost use Rattle.gw_steps.specs.Example.{outstation_down, outstation_up, poll};
 ghost use Rattle.law_orders.specs.BondExample.{made, sends, set};
 ghost use Rattle.law_orders.specs.OutcomeExample.{joining, leaves, sends_by, stops};
 ghost use Rattle.law_orders.specs.CommandExample.{deactivation, execute_off, newly_accepted, newly_said, sets, then_sent};
@@ -45,4 +45,7 @@ pub fn answers_by_example()
     ensures sixteenth { newly_said (made (joining ++ sets 0 0 8 ++ sets 1 0 8)) ≡ Some Ordered }
     ensures seventeenth { newly_said (made (joining ++ sets 0 0 8 ++ sets 1 0 8 ++ sends_by 1 8 set 0 ∷ []))
         ≡ Some Negative }
+    // One that is under way takes no place.
+    ensures under_way { newly_said (made (joining ++ sets 0 0 8 ++ sets 1 0 8 ++ poll ∷ sends_by 1 8 set 0 ∷ []))
+        ≡ Some Ordered }
 {}

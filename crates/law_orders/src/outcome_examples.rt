@@ -27,6 +27,9 @@ pub fn outcomes_by_example()
     ensures in_time { newly_due (made (sends 0 set ∷ poll ∷ ticks 4999 ∷ [])) ≡ [] }
     ensures late { map (λ x. x.done) (newly_due (made (sends 0 set ∷ poll ∷ ticks 5000 ∷ []))) ≡ false ∷ [] }
     ensures waits { map (λ x. x.number) (pending setup 0 (made (sends 0 set ∷ ticks 5000 ∷ []))) ≡ 1 ∷ [] }
+    ensures others_wait { map (λ x. x.number) (pending setup 0 (made (three_orders ++ ticks 5000 ∷ []))) ≡ 2 ∷ 3 ∷ [] }
+    // The outstation is lost after SELECT succeeded: the order isn't done.
+    ensures selected_only { map (λ x. x.done) (newly_due (made (selected 0 (outstation_down ∷ [])))) ≡ false ∷ [] }
     // An order is done by one DIRECT_OPERATE, and the next one waits on.
     ensures direct { map (λ x. x.done) (newly_due (made (switching_first ++ switched ∷ []))) ≡ true ∷ [] }
     ensures next { map (λ x. x.number) (pending setup 0 (made (switching_first ++ switched ∷ []))) ≡ 2 ∷ [] }

@@ -104,4 +104,6 @@ pub fn orders_by_example()
     ensures waits { due_at setup 0 (made_of_orders (sends 0 set ∷ [])) 2000 ≡ Some (OfOrder 1) }
     ensures operate { due_at setup 0 (made_of_orders (selected 0 [])) 2000 ≡ Some (OfOrder 1) }
     ensures refused { due_at setup 0 (made_of_orders (selected 4 [])) 2000 ≡ Some (ToAsk event_poll) }
+    // OPERATE comes before an order that waits.
+    ensures operate_first { due_at setup 0 (made_of_orders (selected 0 (sends 1 set ∷ []))) 2000 ≡ Some (OfOrder 1) }
 {}
