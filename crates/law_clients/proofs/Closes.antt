@@ -81,7 +81,7 @@ same_places setup (Some hs) k j news tied holds =
     ∙ ap (λ (n : ℕ). n + places_for (is_asked k.rest) j) (omega (arith, ap length tied.answers, holds))
 
 -- the first of the causes, by whether each holds
-abbrev first_cause : Bool → Bool → Bool → Bool → Option Why
+abbrev pub first_cause : Bool → Bool → Bool → Bool → Option Why
 first_cause stopped wrong malformed flooded =
     first_of (when stopped NotStarted ∷ when wrong Sequence ∷ when malformed Malformed ∷ when flooded Flooded ∷ [])
 

@@ -15,9 +15,11 @@ use Rattle.law_clients.proofs.Mirror.{mirrors}
 use Rattle.law_clients.proofs.Numbers.{right_numbers}
 use Rattle.law_clients.proofs.Frames.{judges_frames}
 use Rattle.law_clients.proofs.Apdus.{reads_apdus}
+use Rattle.law_clients.proofs.Closes.{LinkedBefore, tells_closes}
+use Rattle.law_clients.proofs.Steps.{links}
 
-promised : (setup : Setup) (past : List Entry) → Place setup past → Promises setup past
-promised setup past place = record {
+promised : (setup : Setup) (past : List Entry) → Place setup past → LinkedBefore setup past → Promises setup past
+promised setup past place linked = record {
   news = tells_news setup past place;
   interrogations = answers_interrogations setup past place;
   line = of_each setup (KeepsLine setup)
@@ -25,7 +27,7 @@ promised setup past place = record {
   mirror = mirrors setup past place;
   numbers = of_each setup (HasRightNumbers setup.station.k)
       (right_numbers setup place.given.settings.window) past place;
-  frames = judges_frames setup past place;
+  frames = judges_frames setup past place linked (tells_closes setup past place linked);
   apdus = reads_apdus setup past place;
   confirmations = confirmed setup past place;
   meant = place.given.meant;
@@ -33,8 +35,8 @@ promised setup past place = record {
 }
 
 each_promised : (setup : Setup) (past : List Entry) → AtEach (Place setup) past → AtEach (Promises setup) past
-each_promised setup [] at = promised setup [] at
-each_promised setup (e ∷ past) at = (promised setup (e ∷ past) at.0, each_promised setup past at.1)
+each_promised setup [] at = promised setup [] at tt
+each_promised setup (e ∷ past) at = (promised setup (e ∷ past) at.0 (links setup past at.1), each_promised setup past at.1)
 
 pub keeps_promises : (setup : Setup) (past : List Entry) → IsSoundRun setup past → AtEach (Promises setup) past
 keeps_promises setup past run = each_promised setup past (places setup past run)
