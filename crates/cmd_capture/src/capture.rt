@@ -4,7 +4,7 @@ use crate::files::Files;
 use crate::kept::Kept;
 use crate::lines::Lines;
 use crate::pieces::{OnePiece, Pieces};
-use crate::waiting::{Turn, WaitingLines};
+use crate::waiting::{Next, WaitingLines};
 use cmd_text::{RecordEnd, RecordEndCause};
 use gw_model::Memory;
 use gw_steps::{Pumps, Reply, Step, StepFault};
@@ -13,6 +13,17 @@ use std::alloc::Global;
 use std::io::Write;
 use std::sync::atomic::{AtomicBool, Ordering};
 use std::sync::{Mutex, Wait};
+
+/// What the thread that writes waits for before its next turn.
+#[derive(Drop)]
+enum AwaitedLines {
+    /// Nothing.
+    Nothing,
+    /// That the capture's bell is rung more often than so.
+    Ring(u64),
+    /// Nothing any more: the capture has ended so.
+    Never(RecordEnd),
+}
 
 /// The steps of all workers on their way into two files. A worker doesn't wait for them to be written: where too much
 /// waits the capture ends.
@@ -146,51 +157,48 @@ impl Capture {
         ended
     }
 
-    /// Lines after lines.
+    /// Turn after turn.
     fn write_all<R: Wait, W: Write + Drop, P: Pieces<W> + Drop>(
         &self,
         rt: &R,
         files: &mut Files<W, P>,
     ) -> RecordEnd {
         for _ in rt.forever() {
-            if let Some(ended) = self.write_next(rt, files) {
-                return ended;
+            match self.turn(rt, files) {
+                AwaitedLines::Nothing => {}
+                AwaitedLines::Ring(rung) => self.bell.wait(rt, rung),
+                AwaitedLines::Never(ended) => return ended,
             }
         }
         unreachable!()
     }
 
-    /// Writes the lines that have waited longest, or waits for some; how the capture ended, if it did.
-    fn write_next<R: Wait, W: Write + Drop, P: Pieces<W> + Drop>(
-        &self,
-        rt: &R,
-        files: &mut Files<W, P>,
-    ) -> Option<RecordEnd> {
-        let rung = self.bell.rung();
-        let done = match self.turn(rt, files) {
-            Turn::Write(lines) => files.take(lines),
-            Turn::Wait => {
-                let flushed = files.flush();
-                if flushed.is_ok() {
-                    self.bell.wait(rt, rung);
-                }
-                flushed
-            }
-            Turn::End(cause) => Err(cause),
-        };
-        match done {
-            Ok(()) => None,
-            Err(cause) => Some(files.end(cause)),
-        }
-    }
-
-    /// What is to be done next.
+    /// One turn of the thread that writes: writes the lines that have waited longest, or sees to it that all that was written
+    /// stands in the files. What it waits for then.
     fn turn<R: Wait, W: Write + Drop, P: Pieces<W> + Drop>(
         &self,
         rt: &R,
         files: &mut Files<W, P>,
-    ) -> Turn {
+    ) -> AwaitedLines {
+        let rung = self.bell.rung();
+        let (done, awaited) = match self.next(rt, files) {
+            Next::Write(lines) => (files.take(lines), AwaitedLines::Nothing),
+            Next::Wait => (files.flush(), AwaitedLines::Ring(rung)),
+            Next::End(cause) => (Err(cause), AwaitedLines::Nothing),
+        };
+        match done {
+            Ok(()) => awaited,
+            Err(cause) => AwaitedLines::Never(files.end(cause)),
+        }
+    }
+
+    /// What is to be done next.
+    fn next<R: Wait, W: Write + Drop, P: Pieces<W> + Drop>(
+        &self,
+        rt: &R,
+        files: &mut Files<W, P>,
+    ) -> Next {
         let added = files.take_added();
-        self.waiting.lock(rt).turn(added)
+        self.waiting.lock(rt).next(added)
     }
 }

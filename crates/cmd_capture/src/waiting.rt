@@ -56,9 +56,9 @@ impl Amount {
     }
 }
 
-/// What the thread that writes is to do.
+/// What the thread that writes is to do next.
 #[derive(Drop)]
-pub enum Turn {
+pub enum Next {
     /// To write these.
     Write(Lines),
     /// To wait.
@@ -117,14 +117,14 @@ impl WaitingLines {
     }
 
     /// What is to be done by the thread that has written so much since it asked last.
-    pub fn turn(&mut self, written: Amount) -> Turn {
+    pub fn next(&mut self, written: Amount) -> Next {
         self.amount = self.amount.without(written);
         if let Some(lines) = self.lines.pop_front() {
-            return Turn::Write(lines);
+            return Next::Write(lines);
         }
         match self.ended {
-            Some(cause) => Turn::End(cause),
-            None => Turn::Wait,
+            Some(cause) => Next::End(cause),
+            None => Next::Wait,
         }
     }
 }

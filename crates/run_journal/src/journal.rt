@@ -11,6 +11,17 @@ use std::alloc::Global;
 use std::sync::atomic::{AtomicBool, Ordering};
 use std::sync::{Mutex, Wait};
 
+/// What the thread that writes waits for before its next turn.
+#[derive(Clone, Copy)]
+pub enum AwaitedNote {
+    /// Nothing.
+    Nothing,
+    /// That the journal's bell is rung more often than so.
+    Ring(u64),
+    /// Nothing any more: the journal is closed, and all is written.
+    Never,
+}
+
 /// Notes on their way to standard error. Whoever tells something doesn't wait for it to be written: at most 1,024 notes
 /// wait, and of more the newest are left out and counted. How many is told before the next note that finds room.
 #[derive(Drop)]
@@ -81,12 +92,24 @@ impl Journal {
     /// Writes notes to standard error as they come, until the journal is closed and all are written.
     pub fn write_on<R: Wait + Eprint>(&self, rt: &R) {
         for _ in rt.forever() {
-            let rung = self.bell.rung();
-            match self.next(rt) {
-                Next::Note(note) => self.write(rt, &note),
-                Next::Nothing => self.bell.wait(rt, rung),
-                Next::End => return,
+            match self.turn(rt) {
+                AwaitedNote::Nothing => {}
+                AwaitedNote::Ring(rung) => self.bell.wait(rt, rung),
+                AwaitedNote::Never => return,
             }
+        }
+    }
+
+    /// One turn of the thread that writes: writes the next note, if one waits. What it waits for then.
+    pub fn turn<R: Wait + Eprint>(&self, rt: &R) -> AwaitedNote {
+        let rung = self.bell.rung();
+        match self.next(rt) {
+            Next::Note(note) => {
+                self.write(rt, &note);
+                AwaitedNote::Nothing
+            }
+            Next::Nothing => AwaitedNote::Ring(rung),
+            Next::End => AwaitedNote::Never,
         }
     }
 

@@ -15,7 +15,7 @@ mod write_trouble;
 pub use control_event::{CommandEvent, OrderEvent};
 pub use doubt::Doubt;
 pub use event::{JournalEvent, Priority};
-pub use journal::Journal;
+pub use journal::{AwaitedNote, Journal};
 pub use note_line::{Note, NoteLine};
 pub use reason::Reason;
 pub use run_figures::{
