@@ -24,10 +24,26 @@ struct Connection {
     is_written: bool,
     /// Nothing more comes behind what is on its way.
     is_cut: bool,
+    /// Whether it was told that a write would wait.
+    is_blocked: bool,
     /// When the reader looks whether the client stands.
     look: u64,
     /// When the next one is made.
     next: u64,
+}
+
+impl Connection {
+    /// None, before the next is made.
+    fn none(next: u64) -> Connection {
+        Connection {
+            is_read: false,
+            is_written: false,
+            is_cut: true,
+            is_blocked: false,
+            look: u64::MAX,
+            next,
+        }
+    }
 }
 
 /// A control centre, its connection, and the gateway's workers for it.
@@ -83,13 +99,7 @@ impl<'a, 'b, L: Course, S: Calls<L>, R: Wait, G: Gate> CentrePart<'a, 'b, L, S, 
             duty: Duty::new(0),
             up: scene.pipe(stream.saturating_add(1)),
             down: scene.pipe(stream.saturating_add(2)),
-            connection: Connection {
-                is_read: false,
-                is_written: false,
-                is_cut: true,
-                look: u64::MAX,
-                next: u64::from(number).saturating_mul(13),
-            },
+            connection: Connection::none(u64::from(number).saturating_mul(13)),
         }
     }
 
@@ -134,7 +144,7 @@ impl<'a, 'b, L: Course, S: Calls<L>, R: Wait, G: Gate> CentrePart<'a, 'b, L, S, 
             is_written: true,
             is_cut: false,
             look: now.saturating_add(LOOK_MS),
-            next: u64::MAX,
+            ..Connection::none(u64::MAX)
         };
     }
 
@@ -201,6 +211,16 @@ impl<'a, 'b, L: Course, S: Calls<L>, R: Wait, G: Gate> CentrePart<'a, 'b, L, S, 
     fn is_blocked(&self) -> bool {
         let is_ended = self.connection.is_cut || self.scene.shared.stopping();
         self.down.count() >= ROOM && !is_ended
+    }
+
+    /// Tells whether a write would wait, if that has changed.
+    fn tell_room(&mut self) {
+        let is_blocked = self.connection.is_written && self.is_blocked();
+        if is_blocked != self.connection.is_blocked {
+            self.connection.is_blocked = is_blocked;
+            let word = if is_blocked { "blocked" } else { "unblocked" };
+            self.scene.log.add(word, &[u64::from(self.number)]);
+        }
     }
 
     /// The writer's turn, if it has something to do.
@@ -271,6 +291,7 @@ impl<'a, 'b, L: Course, S: Calls<L>, R: Wait, G: Gate> Part for CentrePart<'a, '
             return;
         }
         self.act_peer(now);
+        self.tell_room();
         if !self.is_at_work() {
             if self.connection.next <= now {
                 self.connect(now);
@@ -284,6 +305,7 @@ impl<'a, 'b, L: Course, S: Calls<L>, R: Wait, G: Gate> Part for CentrePart<'a, '
             self.write(now);
             self.read(now);
         }
+        self.tell_room();
     }
 
     fn at_work(&self) -> u64 {

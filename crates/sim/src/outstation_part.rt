@@ -188,7 +188,7 @@ impl<'a, 'b, 'c, L: Course, N: LineCourse, S: Calls<L>, R: Wait, G: Gate> Outsta
             return;
         }
         scene.log.add("opened", &[0, u64::from(self.number)]);
-        self.peer.connect();
+        self.peer.connect(now);
         self.outbox.open();
         self.up.clear();
         self.down.clear();
@@ -210,6 +210,7 @@ impl<'a, 'b, 'c, L: Course, N: LineCourse, S: Calls<L>, R: Wait, G: Gate> Outsta
 
     /// The connection is lost on its way.
     fn cut_off(&mut self) {
+        self.scene.log.add("cut", &[u64::from(self.number)]);
         self.up.cut_off();
         self.end_of_connection();
     }
@@ -288,6 +289,7 @@ impl<'a, 'b, 'c, L: Course, N: LineCourse, S: Calls<L>, R: Wait, G: Gate> Outsta
                 if let Some(piece) = self.up.take(now) {
                     self.connection.look = now.saturating_add(self.waits.wait);
                     self.connection.waits = self.waits.count;
+                    self.tell_octets();
                     self.read_turn(now, Coming::Octets(piece.octets.as_slice()));
                 }
             }
@@ -310,11 +312,21 @@ impl<'a, 'b, 'c, L: Course, N: LineCourse, S: Calls<L>, R: Wait, G: Gate> Outsta
         }
     }
 
+    /// Tells that octets come, where these mostly are no whole frames.
+    fn tell_octets(&self) {
+        if self.peer.trickles() {
+            self.scene.log.add("octets", &[u64::from(self.number)]);
+        }
+    }
+
     /// A turn of the reader.
     fn read_turn(&mut self, now: u64, coming: Coming<'_>) {
         let mut inlet = Inlet::new(coming);
         let ended = self.rest.turn(&mut self.reader, &mut inlet);
-        self.deliver(now);
+        // What it writes if nothing came asks for the status of the link.
+        if self.deliver(now) && matches!(coming, Coming::Later) {
+            self.scene.log.add("checks", &[u64::from(self.number)]);
+        }
         if let Some(end) = ended {
             let scene = self.scene;
             self.connection.is_read = false;
@@ -346,17 +358,32 @@ impl<'a, 'b, 'c, L: Course, N: LineCourse, S: Calls<L>, R: Wait, G: Gate> Outsta
         }
         let ended = self.writer.turn();
         self.duty.wait(now);
-        self.deliver(now);
-        if let Some(end) = ended {
-            self.connection.is_written = false;
-            self.shut(now, 1, end);
+        let _ = self.deliver(now);
+        match ended {
+            Some(end) => {
+                self.connection.is_written = false;
+                self.shut(now, 1, end);
+            }
+            None => self.tell_rest(),
         }
     }
 
-    /// What the gateway has written goes on its way.
-    fn deliver(&mut self, now: u64) {
+    /// Tells for how long the outstation isn't asked, if it rests.
+    fn tell_rest(&self) {
+        if let Awaited::RingOrTime { milliseconds, .. } = self.writer.awaits {
+            if milliseconds > 0 {
+                self.scene
+                    .log
+                    .add("rests", &[u64::from(self.number), milliseconds]);
+            }
+        }
+    }
+
+    /// What the gateway has written goes on its way; whether it has written something.
+    fn deliver(&mut self, now: u64) -> bool {
         let octets = self.outbox.take(self.scene.alloc);
         self.down.send(now, octets.as_slice(), 0);
+        !octets.is_empty()
     }
 
     /// The outstation does what is due.

@@ -3,9 +3,17 @@
 use dnp_app::AppFault;
 use gw_threads::{
     ApduKind, Effects, FrameHeader, Gate, Observer, OrderEnd, Place, Pumps, Reply, Step, StepFault,
-    StepKind,
+    StepKind, Verdict,
 };
 use sim_peers::Log;
+
+/// What is told of a client's APDU in place of the function of a U format: that it is an S format, an I format with a command
+/// that operates a control, or another I format.
+const S_FORMAT: u64 = 1;
+
+const COMMAND: u64 = 2;
+
+const OTHER: u64 = 0;
 
 /// Who is told of the steps that workers make, and adds lines of them to the log.
 #[derive(Drop)]
@@ -26,7 +34,9 @@ impl<'a> Witness<'a> {
         if let Ok(Reply::Taken) = reply {
             let signal = match effects.apdu() {
                 Some(ApduKind::UFormat(signal)) => u64::from(signal as u8),
-                _ => 0,
+                Some(ApduKind::SFormat) => S_FORMAT,
+                Some(ApduKind::Command(_)) => COMMAND,
+                _ => OTHER,
             };
             self.log.add("took", &[client, acknowledged, signal]);
         }
@@ -50,14 +60,24 @@ impl<'a> Witness<'a> {
     }
 
     /// A fragment was judged.
-    fn fragment(&self, outstation: u8, effects: &Effects) {
+    fn fragment(&self, outstation: u8, reply: &Result<Reply, StepFault>, effects: &Effects) {
         if let Some(reported) = effects.reported() {
             let answers = u64::from(reported.answers.is_some());
             let observations = reported.observations as u64;
-            self.log.add(
-                "accepted",
-                &[u64::from(outstation), answers, observations, effects.news()],
+            let ends = matches!(
+                reply,
+                Ok(Reply::Verdict(Verdict::Accepted { end: true, .. }))
             );
+            let numbers = [
+                u64::from(outstation),
+                answers,
+                observations,
+                effects.news(),
+                u64::from(ends),
+            ];
+            self.log.add("accepted", &numbers);
+        } else if let Ok(Reply::Verdict(Verdict::Repeated { .. })) = reply {
+            self.log.add("repeated", &[u64::from(outstation)]);
         }
     }
 
@@ -98,7 +118,7 @@ impl<'a> Observer for Witness<'a> {
         match kind {
             StepKind::Frame(client) => self.frame(client, reply, effects),
             StepKind::Poll(outstation) => self.poll(outstation, reply),
-            StepKind::Fragment(outstation) => self.fragment(outstation, effects),
+            StepKind::Fragment(outstation) => self.fragment(outstation, reply, effects),
             StepKind::Tick => self.tick(reply),
             _ => {}
         }
@@ -116,24 +136,60 @@ impl<'a> Observer for Witness<'a> {
     }
 
     fn pumps(&self, pumps: &Pumps<'_>) {
+        let mut counts = Counts::none();
         let mut rest = pumps.apdus;
-        let (mut numbered, mut tests) = (0u64, 0u64);
         for _ in 0..pumps.apdus.len() {
             let [_, length, control, ..] = rest else {
                 break;
             };
-            if control & 1 == 0 {
-                numbered = numbered.saturating_add(1);
-            }
-            if *control == 0x43 {
-                tests = tests.saturating_add(1);
-            }
+            counts.add(*control);
             let length = usize::from(*length).saturating_add(2).min(rest.len());
             rest = &rest[length..];
         }
-        if numbered > 0 || tests > 0 {
-            self.log
-                .add("gave", &[u64::from(pumps.client), numbered, tests]);
+        if !pumps.apdus.is_empty() {
+            let numbers = [
+                u64::from(pumps.client),
+                counts.numbered,
+                counts.tests,
+                counts.confirmations,
+                counts.acknowledgements,
+                u64::from(pumps.end.is_none()),
+            ];
+            self.log.add("gave", &numbers);
+        }
+    }
+}
+
+/// How many APDUs of each kind were put out: I formats, TESTFR acts, confirmations, S formats.
+#[derive(Clone, Copy)]
+struct Counts {
+    numbered: u64,
+    tests: u64,
+    confirmations: u64,
+    acknowledgements: u64,
+}
+
+impl Counts {
+    /// None.
+    fn none() -> Counts {
+        Counts {
+            numbered: 0,
+            tests: 0,
+            confirmations: 0,
+            acknowledgements: 0,
+        }
+    }
+
+    /// One more, by the first octet of its control field.
+    fn add(&mut self, control: u8) {
+        if control & 1 == 0 {
+            self.numbered = self.numbered.saturating_add(1);
+        } else if control & 2 == 0 {
+            self.acknowledgements = self.acknowledgements.saturating_add(1);
+        } else if control == 0x43 {
+            self.tests = self.tests.saturating_add(1);
+        } else {
+            self.confirmations = self.confirmations.saturating_add(1);
         }
     }
 }

@@ -16,14 +16,14 @@ use std::marker::{Brand, PhantomData};
 use std::sync::Wait;
 use std::sync::ledger::Blank;
 
-/// Two times as many outstations as of a type.
-type Two<O> = OneMore<OneMore<O>>;
+/// Two more outstations than of a type.
+type TwoMore<O> = OneMore<OneMore<O>>;
 
-/// Eight outstations at most.
-type Eight = Two<Two<Two<Two<Nobody>>>>;
+/// Ten outstations at most. All of them stand on the stack, each of them once for each behind it, so many more find no room there.
+type Ten = TwoMore<TwoMore<TwoMore<TwoMore<TwoMore<Nobody>>>>>;
 
-/// How many actors there are: two for each of eight outstations and eight control centres, and the clock.
-const ACTORS: usize = 33;
+/// How many actors there are: two for each of ten outstations and eight control centres, and the clock.
+const ACTORS: usize = 37;
 
 /// How many calls the recorder keeps.
 const RECORDED: usize = 256;
@@ -61,7 +61,7 @@ fn hub_of(alloc: Global, scenario: &Scenario) -> Option<Hub>
 
 /// What the core of a scenario is made of.
 fn opening_of(alloc: Global, scenario: &Scenario) -> Option<Opening>
-    ensures parts { IfSome result (λ opening. opening.blank.parts ≡ 33) }
+    ensures parts { IfSome result (λ opening. opening.blank.parts ≡ 37) }
     ensures first { IfSome result (λ opening. IsFirst opening.hub.setup opening.hub) }
 {
     let hub = hub_of(alloc, scenario)?;
@@ -81,7 +81,7 @@ fn play_on<L: Course, R: Wait + Print + AllocGlobal>(
     until: u64,
 ) -> io::Result<bool>
     requires name { opening.blank.name ≡ L.name }
-    requires parts { (opening.blank.parts ≡ L.parts) × (opening.blank.parts ≡ 33) }
+    requires parts { (opening.blank.parts ≡ L.parts) × (opening.blank.parts ≡ 37) }
     requires book { opening.history.seen.book ≡ L.book }
     requires first { IsFirst L.setup opening.hub }
     requires roles { L.roles ≡ anybody }
@@ -175,7 +175,7 @@ fn play_in<'x, L: Course, R: Wait + Print + AllocGlobal>(
     };
     let mut writer = BufWriter::new(rt.alloc(), io::writer(rt))?;
     let mut passes = passes;
-    play::<Eight, L, _, _, _, _>(&scene, &mut passes, &mut writer)?;
+    play::<Ten, L, _, _, _, _>(&scene, &mut passes, &mut writer)?;
     let count = passes.len() as u64;
     if let Ok(closed) = shared.close(rt, passes) {
         log.add("total", &[count, closed.total]);

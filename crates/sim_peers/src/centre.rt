@@ -65,6 +65,8 @@ pub struct Centre {
     feed: ApduFeed,
     is_connected: bool,
     is_started: bool,
+    /// How many STARTDT and STOPDT acts aren't confirmed yet.
+    unconfirmed: u64,
     sent: u16,
     acknowledged: u16,
     received: u16,
@@ -86,6 +88,7 @@ impl Centre {
             feed: ApduFeed::new(alloc),
             is_connected: false,
             is_started: false,
+            unconfirmed: 0,
             sent: 0,
             acknowledged: 0,
             received: 0,
@@ -102,6 +105,7 @@ impl Centre {
         self.feed = ApduFeed::new(self.alloc);
         self.is_connected = true;
         self.is_started = false;
+        self.unconfirmed = 0;
         (self.sent, self.acknowledged, self.received) = (0, 0, 0);
         self.unacknowledged = 0;
         self.command = None;
@@ -114,7 +118,13 @@ impl Centre {
             read: now,
             ..never()
         };
-        way.send(now, &START_ACT, 0);
+        self.signal(now, &START_ACT, way);
+    }
+
+    /// Starts or stops the data transfer, which is to be confirmed.
+    fn signal(&mut self, now: u64, act: &[u8; 6], way: &mut Pipe) {
+        self.unconfirmed = self.unconfirmed.saturating_add(1);
+        way.send(now, act.as_slice(), 0);
     }
 
     /// The connection has ended.
@@ -215,12 +225,13 @@ impl Centre {
             self.timers.stop = self.next(now, Number::StopS);
             if self.is_started {
                 self.acknowledge(now, way);
-                way.send(now, &STOP_ACT, 0);
+                self.signal(now, &STOP_ACT, way);
                 self.is_started = false;
                 self.command = None;
                 log.add("stop", &[self.number]);
             } else {
-                way.send(now, &START_ACT, 0);
+                // Perhaps before its STOPDT or its last STARTDT is confirmed.
+                self.signal(now, &START_ACT, way);
             }
         }
     }
@@ -405,13 +416,20 @@ impl Centre {
     fn take_signal(&mut self, now: u64, signal: Signal, way: &mut Pipe, log: &Log<'_>) {
         match signal {
             Signal::StartCon => {
-                self.is_started = true;
-                self.timers.order = self.next(now, Number::OrderS);
-                self.timers.interrogation = now;
+                self.unconfirmed = self.unconfirmed.saturating_sub(1);
                 log.add("started", &[self.number]);
+                // The last act is the one that counts.
+                if self.unconfirmed == 0 {
+                    self.is_started = true;
+                    self.timers.order = self.next(now, Number::OrderS);
+                    self.timers.interrogation = now;
+                }
             }
             Signal::TestAct => way.send(now, &TEST_CON, 0),
-            Signal::StopCon => log.add("stopped", &[self.number]),
+            Signal::StopCon => {
+                self.unconfirmed = self.unconfirmed.saturating_sub(1);
+                log.add("stopped", &[self.number]);
+            }
             Signal::StartAct | Signal::StopAct | Signal::TestCon => {}
         }
     }
@@ -466,7 +484,7 @@ impl Centre {
         }
     }
 
-    /// Observations come.
+    /// Observations come. One line tells of them: the address, the value and the quality of each.
     fn take_told(
         &self,
         kind: u8,
@@ -476,6 +494,13 @@ impl Centre {
         objects: &[u8],
         log: &Log<'_>,
     ) {
+        let mut told = Vec::new(self.alloc);
+        let _ = told.extend_from_slice(&[
+            self.number,
+            u64::from(common),
+            u64::from(cause),
+            u64::from(kind),
+        ]);
         let element: usize = if kind == 33 { 12 } else { 5 };
         let is_sequence = count & 0x80 != 0;
         let mut rest = objects;
@@ -488,21 +513,12 @@ impl Centre {
                 address = number_in(rest, 0, 3);
                 rest = &rest[3.min(rest.len())..];
             }
-            log.add(
-                "told",
-                &[
-                    self.number,
-                    u64::from(common),
-                    address,
-                    number_in(rest, 0, 4),
-                    number_in(rest, 4, 1),
-                    u64::from(cause),
-                    u64::from(kind),
-                ],
-            );
+            let value = number_in(rest, 0, 4);
+            let _ = told.extend_from_slice(&[address, value, number_in(rest, 4, 1)]);
             rest = &rest[element.min(rest.len())..];
             address = address.saturating_add(1);
         }
+        log.add("told", told.as_slice());
     }
 }
 

@@ -45,6 +45,16 @@ const LAST_SEGMENT: u8 = 0x80;
 /// The milliseconds for which a SELECT stands.
 const SELECT_MS: u64 = 10_000;
 
+/// The least and the most milliseconds from one repetition of an unsolicited response to the next, and how many there are at most.
+const REPEATS_MS: (u64, u64) = (20, 800);
+
+const MOST_REPEATS: u64 = 3;
+
+/// The least and the most milliseconds from one octet to the next where they trickle, and how many wait at most.
+const TRICKLES_MS: (u64, u64) = (5, 1500);
+
+const MOST_TRICKLING: usize = 4096;
+
 /// A change of a point.
 #[derive(Clone, Copy)]
 struct Event {
@@ -73,12 +83,58 @@ struct Reading {
     left: usize,
 }
 
+/// An unsolicited response that is repeated as it is.
+#[derive(Drop)]
+struct Repetition {
+    fragment: Vec<u8>,
+    observations: u64,
+    /// How often it is still repeated, and when next.
+    left: u64,
+    at: u64,
+}
+
+/// How an outstation sends.
+#[derive(Clone, Copy)]
+enum Sending {
+    /// As it should.
+    Well,
+    /// Only the status of its link: it keeps its fragments for ever.
+    LinkAlone,
+    /// Nothing.
+    Nothing,
+    /// Octet by octet, so many milliseconds from one to the next.
+    Trickling(u64),
+}
+
+/// An octet that is still to be sent, and how many observations the fragment brings that ends with it.
+#[derive(Clone, Copy)]
+struct Waiting {
+    octet: u8,
+    observations: u64,
+}
+
 /// What an outstation is to do when.
 #[derive(Clone, Copy)]
 struct Timers {
     event: u64,
     restart: u64,
     unsolicited: u64,
+    /// When it gets stuck, and when the next octet goes where they trickle.
+    stuck: u64,
+    trickle: u64,
+}
+
+impl Timers {
+    /// Those of an outstation that starts.
+    fn first(scenario: &Scenario, number: u64, random: &mut Random) -> Timers {
+        Timers {
+            event: random.next_after(0, event_gap(scenario, number)),
+            restart: random.next_after(0, scenario.milliseconds(Number::RestartS)),
+            unsolicited: u64::MAX,
+            stuck: u64::MAX,
+            trickle: u64::MAX,
+        }
+    }
 }
 
 /// An outstation. Each event has a value of its own: its number.
@@ -103,6 +159,12 @@ pub struct Outstation {
     selected_until: u64,
     timers: Timers,
     fragments: u64,
+    repetition: Option<Repetition>,
+    /// The confirmation of the response that was repeated last, and how often it still comes.
+    repeated: u8,
+    owed: u64,
+    sending: Sending,
+    trickling: VecDeque<Waiting>,
     unsolicited_sequence: u8,
     is_enabled: bool,
     is_restarted: bool,
@@ -117,11 +179,7 @@ impl Outstation {
     pub fn new(alloc: Global, scenario: &Scenario, number: u64) -> Result<Outstation, AllocError> {
         let mut random = Random::new(scenario.seed, number.saturating_add(100));
         let values = Vec::from_elem(alloc, 0, scenario.points() as usize)?;
-        let timers = Timers {
-            event: random.next_after(0, event_gap(scenario, number)),
-            restart: random.next_after(0, scenario.milliseconds(Number::RestartS)),
-            unsolicited: u64::MAX,
-        };
+        let timers = Timers::first(scenario, number, &mut random);
         Ok(Outstation {
             alloc,
             scenario: *scenario,
@@ -140,6 +198,11 @@ impl Outstation {
             selected_until: 0,
             timers,
             fragments: 0,
+            repetition: None,
+            repeated: 0,
+            owed: 0,
+            sending: Sending::Well,
+            trickling: VecDeque::new(alloc),
             unsolicited_sequence: 0,
             is_enabled: false,
             is_restarted: true,
@@ -151,26 +214,41 @@ impl Outstation {
     }
 
     /// A connection stands.
-    pub fn connect(&mut self) {
+    pub fn connect(&mut self, now: u64) {
         self.feed = LinkFeed::new(self.alloc);
         self.transport = 0;
         self.is_connected = true;
         self.wants_loss = false;
         self.forget();
+        let period = self.scenario.milliseconds(Number::StuckS);
+        if period > 0 {
+            self.timers.stuck = self.random.next_after(now, period);
+        }
     }
 
     /// The connection has ended.
     pub fn disconnect(&mut self) {
         self.is_connected = false;
         self.forget();
+        self.owed = 0;
+        self.sending = Sending::Well;
+        self.trickling.clear();
+        self.timers.stuck = u64::MAX;
+        self.timers.trickle = u64::MAX;
     }
 
     /// Nothing is under way on the connection.
     fn forget(&mut self) {
         self.awaited = None;
+        self.repetition = None;
         self.further = None;
         self.deferred = None;
         self.selected_until = 0;
+    }
+
+    /// Whether it sends octet by octet.
+    pub fn trickles(&self) -> bool {
+        matches!(self.sending, Sending::Trickling(_))
     }
 
     /// Whether it has just ended the connection itself.
@@ -191,9 +269,14 @@ impl Outstation {
 
     /// When something is due of itself.
     pub fn due(&self) -> u64 {
-        let mut due = self.timers.event.min(self.timers.restart);
+        let timers = &self.timers;
+        let mut due = timers.event.min(timers.restart).min(timers.stuck);
+        due = due.min(timers.trickle);
         if let Some(awaited) = self.awaited {
             due = due.min(awaited.until);
+        }
+        if let Some(repetition) = &self.repetition {
+            due = due.min(repetition.at);
         }
         if self.may_send() {
             due = due.min(self.timers.unsolicited);
@@ -209,13 +292,21 @@ impl Outstation {
         if self.timers.restart <= now {
             self.restart(now, log);
         }
+        if self.timers.stuck <= now {
+            self.get_stuck(now, log);
+        }
+        if self.timers.trickle <= now {
+            self.trickle(now, way);
+        }
         if let Some(awaited) = self.awaited {
             if awaited.until <= now {
                 self.awaited = None;
+                self.repetition = None;
                 self.further = None;
                 self.go_on(now, way, log);
             }
         }
+        self.repeat(now, way, log);
         if self.may_send() && self.timers.unsolicited <= now {
             self.send_unsolicited(now, way, log);
         }
@@ -265,6 +356,67 @@ impl Outstation {
         log.add("restart", &[self.number]);
     }
 
+    /// It gets stuck until the connection ends.
+    fn get_stuck(&mut self, now: u64, log: &Log<'_>) {
+        self.timers.stuck = u64::MAX;
+        let (least, most) = TRICKLES_MS;
+        let gap = self.random.between(least, most);
+        let (sending, code) = match self.random.below(3) {
+            0 => (Sending::LinkAlone, 0),
+            1 => (Sending::Nothing, 1),
+            _ => (Sending::Trickling(gap), 2),
+        };
+        self.sending = sending;
+        self.timers.trickle = now;
+        log.add("stuck", &[self.number, code, gap]);
+    }
+
+    /// Sends the next octet of those that trickle.
+    fn trickle(&mut self, now: u64, way: &mut Pipe) {
+        self.timers.trickle = match self.sending {
+            Sending::Trickling(gap) if !self.trickling.is_empty() => now.saturating_add(gap),
+            _ => u64::MAX,
+        };
+        if let Some(waiting) = self.trickling.pop_front() {
+            way.send(now, &[waiting.octet], waiting.observations);
+        }
+    }
+
+    /// Repeats an unsolicited response, if that is due.
+    fn repeat(&mut self, now: u64, way: &mut Pipe, log: &Log<'_>) {
+        let Some(repetition) = self.repetition.take() else {
+            return;
+        };
+        if !matches!(self.sending, Sending::Well) {
+            return;
+        }
+        if repetition.at > now {
+            self.repetition = Some(repetition);
+            return;
+        }
+        self.owed = self.owed.saturating_add(1);
+        log.add("repeat", &[self.number]);
+        self.transmit(
+            now,
+            repetition.fragment.as_slice(),
+            repetition.observations,
+            way,
+        );
+        if repetition.left > 1 {
+            self.repetition = Some(Repetition {
+                left: repetition.left - 1,
+                at: now.saturating_add(self.repeats_in()),
+                ..repetition
+            });
+        }
+    }
+
+    /// In how many milliseconds a response is repeated.
+    fn repeats_in(&mut self) -> u64 {
+        let (least, most) = REPEATS_MS;
+        self.random.between(least, most)
+    }
+
     /// Octets come from the master.
     pub fn take(&mut self, now: u64, octets: &[u8], way: &mut Pipe, log: &Log<'_>) {
         if self.feed.feed(octets).is_err() {
@@ -296,7 +448,38 @@ impl Outstation {
     fn answer_link(&mut self, now: u64, way: &mut Pipe) {
         let mut frame = [0; 292];
         let end = write_frame(LINK_STATUS, MASTER, self.address(), &[], &mut frame);
-        way.send(now, &frame[..end], 0);
+        match self.sending {
+            Sending::LinkAlone => way.send(now, &frame[..end], 0),
+            _ => self.put(now, &frame[..end], 0, way),
+        }
+    }
+
+    /// Octets go on their way, as far as it sends.
+    fn put(&mut self, at: u64, octets: &[u8], observations: u64, way: &mut Pipe) {
+        match self.sending {
+            Sending::Well => way.send(at, octets, observations),
+            Sending::LinkAlone | Sending::Nothing => {}
+            Sending::Trickling(_) => self.keep(at, octets, observations),
+        }
+    }
+
+    /// Octets wait until they are sent one by one, unless too many do.
+    fn keep(&mut self, at: u64, octets: &[u8], observations: u64) {
+        if self.trickling.len() > MOST_TRICKLING {
+            return;
+        }
+        if self.trickling.is_empty() {
+            self.timers.trickle = at;
+        }
+        for octet in octets {
+            let _ = self.trickling.push_back(Waiting {
+                octet: *octet,
+                observations: 0,
+            });
+        }
+        if let Some(last) = self.trickling.back_mut() {
+            last.observations = observations;
+        }
     }
 
     /// A request comes.
@@ -333,16 +516,16 @@ impl Outstation {
     /// A confirmation comes.
     fn confirmed(&mut self, now: u64, control: u8, way: &mut Pipe, log: &Log<'_>) {
         let Some(awaited) = self.awaited else {
-            if self.last == Some(control) {
-                log.add("twice", &[self.number]);
-            }
+            self.confirmed_again(control, log);
             return;
         };
         let is_unsolicited = control & UNS != 0;
         if awaited.sequence != control & 0x0F || awaited.is_unsolicited != is_unsolicited {
+            self.confirmed_again(control, log);
             return;
         }
         self.awaited = None;
+        self.repetition = None;
         self.last = Some(control);
         for _ in 0..awaited.count {
             let _ = self.events.pop_front();
@@ -352,6 +535,16 @@ impl Outstation {
         }
         log.add("confirmed", &[self.number, awaited.fragment]);
         self.go_on(now, way, log);
+    }
+
+    /// A confirmation comes that isn't awaited: of a repetition, or once too often.
+    fn confirmed_again(&mut self, control: u8, log: &Log<'_>) {
+        if self.owed > 0 && self.repeated == control {
+            self.owed -= 1;
+            log.add("again", &[self.number]);
+        } else if self.last == Some(control) {
+            log.add("twice", &[self.number]);
+        }
     }
 
     /// What follows a confirmation, or its time-out: the next fragment, or the answer to a read that waits for that.
@@ -415,7 +608,7 @@ impl Outstation {
                 left,
             });
         }
-        self.send(at, control, RESPONSE, objects.as_slice(), observations, way);
+        let _ = self.send(at, control, RESPONSE, objects.as_slice(), observations, way);
     }
 
     /// A fragment waits for its confirmation from a moment on.
@@ -446,7 +639,7 @@ impl Outstation {
         self.unsolicited_sequence = sequence.wrapping_add(1);
         self.await_confirmation(now, sequence, true, count);
         let control = WHOLE | CON | UNS | sequence;
-        self.send(
+        let fragment = self.send(
             now,
             control,
             UNSOLICITED,
@@ -454,9 +647,27 @@ impl Outstation {
             count as u64,
             way,
         );
+        self.plan_repetition(now, control, fragment, count as u64);
     }
 
-    /// Adds the oldest events: group 32 variation 3, with index and time.
+    /// An unsolicited response was sent, which is perhaps to be repeated. None is while the last one isn't confirmed as often
+    /// as it was sent.
+    fn plan_repetition(&mut self, now: u64, control: u8, fragment: Vec<u8>, observations: u64) {
+        let often = self.scenario.of(Number::Repeat);
+        if often == 0 || self.owed > 0 || !self.random.happens(often) {
+            return;
+        }
+        // Confirmations have the same octet, but for CON, FIR and FIN.
+        self.repeated = control & !CON;
+        self.repetition = Some(Repetition {
+            fragment,
+            observations,
+            left: self.random.between(1, MOST_REPEATS),
+            at: now.saturating_add(self.repeats_in()),
+        });
+    }
+
+    /// Adds the oldest events: group 32 variation 3, with index and time. One line tells of them: the point and the value of each.
     fn push_events(
         &self,
         objects: &mut Vec<u8>,
@@ -468,22 +679,17 @@ impl Outstation {
         }
         let [low, high, ..] = (count as u64).to_le_bytes();
         objects.extend_from_slice(&[32, 3, 0x28, low, high])?;
+        let mut told = Vec::new(self.alloc);
+        told.extend_from_slice(&[self.number, self.fragments])?;
         for event in self.events.iter().take(count) {
             let [low, high, ..] = event.point.to_le_bytes();
             objects.extend_from_slice(&[low, high, 1])?;
             objects.extend_from_slice(&event.value.to_le_bytes())?;
             let [a, b, c, d, e, f, ..] = event.time.to_le_bytes();
             objects.extend_from_slice(&[a, b, c, d, e, f])?;
-            log.add(
-                "event",
-                &[
-                    self.number,
-                    event.point,
-                    u64::from(event.value),
-                    self.fragments,
-                ],
-            );
+            told.extend_from_slice(&[event.point, u64::from(event.value)])?;
         }
+        log.add("event", told.as_slice());
         Ok(())
     }
 
@@ -532,7 +738,7 @@ impl Outstation {
                 *status = 4;
             }
         }
-        self.send(at, WHOLE | sequence, RESPONSE, objects.as_slice(), 0, way);
+        let _ = self.send(at, WHOLE | sequence, RESPONSE, objects.as_slice(), 0, way);
     }
 
     /// An output is operated, and a point shows it.
@@ -572,7 +778,7 @@ impl Outstation {
             (21, _) => self.is_enabled = false,
             _ => {}
         }
-        self.send(at, WHOLE | sequence, RESPONSE, &[], 0, way);
+        let _ = self.send(at, WHOLE | sequence, RESPONSE, &[], 0, way);
     }
 
     /// When a request is answered, if it is: mostly at once, sometimes late, or not, or with a wrong sequence number.
@@ -587,13 +793,13 @@ impl Outstation {
         }
         if self.random.happens(self.scenario.of(Number::Wrong)) {
             let wrong = sequence.wrapping_add(3) & 0x0F;
-            self.send(at, WHOLE | wrong, RESPONSE, &[], 0, way);
+            let _ = self.send(at, WHOLE | wrong, RESPONSE, &[], 0, way);
             return None;
         }
         Some(at)
     }
 
-    /// Sends a fragment at a moment.
+    /// Sends a fragment at a moment, and gives it.
     fn send(
         &mut self,
         at: u64,
@@ -602,13 +808,14 @@ impl Outstation {
         objects: &[u8],
         observations: u64,
         way: &mut Pipe,
-    ) {
+    ) -> Vec<u8> {
         self.last = None;
         let mut fragment = Vec::new(self.alloc);
         let [first, second] = self.indications();
         let _ = fragment.extend_from_slice(&[control, function, first, second]);
         let _ = fragment.extend_from_slice(objects);
         self.transmit(at, fragment.as_slice(), observations, way);
+        fragment
     }
 
     /// IIN1 and IIN2.
@@ -655,7 +862,7 @@ impl Outstation {
                 &mut frame,
             );
             let brings = if back.is_empty() { observations } else { 0 };
-            way.send(at, &frame[..end], brings);
+            self.put(at, &frame[..end], brings, way);
             self.transport = self.transport.wrapping_add(1);
             header = 0;
             rest = back;

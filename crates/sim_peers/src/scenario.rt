@@ -55,10 +55,17 @@ pub enum Number {
     PollMs,
     IntegrityMs,
     ResponseMs,
+    /// How often in a thousand an outstation repeats an unsolicited response before it could be confirmed.
+    Repeat,
+    /// The seconds until an outstation gets stuck, from the begin of its connection.
+    StuckS,
 }
 
 /// How many numbers there are.
-pub const NUMBERS: usize = 35;
+pub const NUMBERS: usize = 37;
+
+/// How often in a thousand there are more outstations than usual, and the least and the largest number of them then.
+const MANY: (u64, u64, u64) = (40, 9, 10);
 
 /// The milliseconds from one poll to the next where they are rare.
 const QUIET_POLL_MS: u64 = 200_000;
@@ -102,6 +109,8 @@ const RANGES: [Range; NUMBERS] = [
     ("poll_ms", 200, 3000, 0),
     ("integrity_ms", 20_000, 600_000, 400),
     ("response_ms", 500, 5000, 0),
+    ("repeat", 20, 500, 600),
+    ("stuck_s", 20, 400, 700),
 ];
 
 /// What is played.
@@ -119,6 +128,10 @@ impl Scenario {
         for (value, (_, least, most, zero)) in values.iter_mut().zip(&RANGES) {
             let drawn = random.between(*least, *most);
             *value = if random.happens(*zero) { 0 } else { drawn };
+        }
+        let (often, least, most) = MANY;
+        if random.happens(often) {
+            values[Number::Outstations as usize] = random.between(least, most);
         }
         Scenario { seed, values }
     }
@@ -146,7 +159,7 @@ impl Scenario {
 
     /// How many outstations there are.
     pub fn outstations(&self) -> u64 {
-        self.of(Number::Outstations).max(1).min(8)
+        self.of(Number::Outstations).max(1).min(10)
     }
 
     /// How many control centres there are.
