@@ -356,14 +356,9 @@ class News(Judge):
 class Interrogation:
     """An interrogation that a centre has sent: what was confirmed then, and which common addresses are still to be answered for."""
 
-    common: int
     confirmed: dict[tuple[int, int], int]
     left: list[int]
     is_confirmed: bool = False
-
-    def refused_under(self) -> int:
-        """Under which common address it is refused, if it is."""
-        return FIRST_COMMON if self.common == ALL_COMMON else self.common
 
 
 class Mirrors(Judge):
@@ -394,7 +389,7 @@ class Mirrors(Judge):
 
     def on_interrogate(self, now: int, centre: int, common: int) -> None:
         commons = range(FIRST_COMMON, FIRST_COMMON + self.numbers["outstations"]) if common == ALL_COMMON else (common,)
-        self.asked[centre].append(Interrogation(common, dict(self.confirmed), list(commons)))
+        self.asked[centre].append(Interrogation(dict(self.confirmed), list(commons)))
 
     def on_stopped(self, now: int, centre: int) -> None:
         self.asked.pop(centre, None)
@@ -428,10 +423,10 @@ class Mirrors(Judge):
             asked.pop(0)
 
     def refuse(self, centre: int, common: int) -> None:
-        """Another one is still being answered: it is refused at once, so what answers that goes on behind. One of all common
-        addresses is refused under the first."""
+        """Another one is still being answered: it is refused at once, under the first common address that it asks. What answers the
+        other goes on behind."""
         asked = self.asked[centre]
-        refused = next((it for it in asked[1:] if it.refused_under() == common), None)
+        refused = next((it for it in asked[1:] if it.left[0] == common), None)
         need(refused is not None, "interrogated", f"an interrogation of centre {centre} is refused, though none is being answered")
         asked.remove(refused)
 
