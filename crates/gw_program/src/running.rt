@@ -39,7 +39,8 @@ pub fn run<R: System>(
     }
 }
 
-/// Reads the settings file, listens, and serves.
+/// Reads the settings file, listens, and serves. (Each function below owns what it makes, and lends it to the next one, so that
+/// hardly one owns something where it may fail.)
 fn serve_file<'a, R: System>(
     rt: &'a HostRuntime,
     system: &R,
@@ -50,34 +51,101 @@ fn serve_file<'a, R: System>(
     check_records(file, asked)?;
     check_followers(file, asked)?;
     let (settings, source) = read_source(rt, file)?;
-    let Named { names, .. } = Named::read(rt, &settings, asked.names)?;
-    let clock = SystemClock::new(system);
-    let shown = Shown::of(rt, asked.status.is_some());
-    let followed = Followed::of(rt.alloc(), &settings, &names, asked)?;
+    let mut settings = Some(settings);
+    serve_source(rt, system, source, sessions, asked, &mut settings)
+}
+
+/// Reads the names, and serves by settings, which are there.
+fn serve_source<'a, R: System>(
+    rt: &'a HostRuntime,
+    system: &R,
+    source: Source<'_>,
+    sessions: Option<u32>,
+    asked: &RunOptions<'a>,
+    settings: &mut Option<Settings>,
+) -> Result<Closed, Unserved<'a>> {
+    let Some(known) = settings.as_ref() else {
+        return Err(Memory.into());
+    };
+    let Named { names, .. } = Named::read(rt, known, asked.names)?;
+    let followed = Followed::of(rt.alloc(), known, &names, asked)?;
+    serve_followed(
+        rt, system, source, sessions, asked, settings, names, &followed,
+    )
+}
+
+/// Opens the file of events, listens, and serves, with what is followed.
+fn serve_followed<'a, R: System>(
+    rt: &'a HostRuntime,
+    system: &R,
+    source: Source<'_>,
+    sessions: Option<u32>,
+    asked: &RunOptions<'a>,
+    settings: &mut Option<Settings>,
+    names: Names,
+    followed: &Followed,
+) -> Result<Closed, Unserved<'a>> {
     let events = event_file(rt, asked).map_err(Unserved::Hindered)?;
-    let (entrances, journal) = begin(rt, system, &clock, &settings, source, names, asked)?;
-    let values = followed.values(rt.alloc())?;
+    let clock = SystemClock::new(system);
+    let Some(known) = settings.as_ref() else {
+        return Err(Memory.into());
+    };
+    let (entrances, journal) = begin(rt, system, &clock, known, source, names, asked)?;
+    let begun = Begun {
+        entrances: &entrances,
+        journal: &journal,
+        clock: &clock,
+        followed,
+    };
+    serve_begun(rt, system, source, sessions, asked, settings, begun, events)
+}
+
+/// What is there before anything is served.
+#[derive(Clone, Copy)]
+struct Begun<'a, R> {
+    entrances: &'a Entrances,
+    journal: &'a Journal,
+    clock: &'a SystemClock<'a, R>,
+    followed: &'a Followed,
+}
+
+/// Serves, with all that is there, by settings that are taken.
+fn serve_begun<'a, R: System>(
+    rt: &'a HostRuntime,
+    system: &R,
+    source: Source<'_>,
+    sessions: Option<u32>,
+    asked: &RunOptions<'a>,
+    settings: &mut Option<Settings>,
+    begun: Begun<'_, R>,
+    events: Option<EventFile<'_, HostRuntime>>,
+) -> Result<Closed, Unserved<'a>> {
+    let shown = Shown::of(rt, asked.status.is_some());
+    let values = begun.followed.values(rt.alloc())?;
+    let Some(settings) = settings.take() else {
+        return Err(Memory.into());
+    };
     let gateway = GatewayRun {
         alloc: rt.alloc(),
         system,
-        listener: &entrances.listener,
+        listener: &begun.entrances.listener,
         options: Options {
-            identity: shown.identity(asked.site, file, source.digest),
+            identity: shown.identity(asked.site, source.file, source.digest),
             sessions,
-            allow: &entrances.allow,
+            allow: &begun.entrances.allow,
             until_eof: asked.until_eof.then_some(rt.stdin()),
-            status: entrances.status.as_ref(),
+            status: begun.entrances.status.as_ref(),
             needs_centre: asked.needs_centre,
             is_recorded: asked.record.is_some() || asked.record_folder.is_some(),
             process: shown.process(),
             values: values.as_ref(),
-            events: followed.queue.as_ref(),
+            events: begun.followed.queue.as_ref(),
         },
-        journal: &journal,
-        clock: &clock,
+        journal: begun.journal,
+        clock: begun.clock,
     };
     match events {
-        Some(events) => gateway.serve_writing(rt, settings, source, asked, &followed, events),
+        Some(events) => gateway.serve_writing(rt, settings, source, asked, begun.followed, events),
         None => gateway.serve_asked(rt, settings, source, asked),
     }
 }
