@@ -1,10 +1,10 @@
 //! What scripts take the time of.
 //!
-//! `bench_layers` reads the octets of a DNP3 link from standard input, and prints how many they are, how many events they show, and how many
-//! fragments they carry (`bench/link`).
+//! `bench_layers` reads the octets of a DNP3 link from standard input, and prints how many they are, how many events
+//! they show, and how many fragments they carry (`bench/link`).
 //!
-//! `bench_layers COUNT LENGTH` makes COUNT APDUs, of which every eighth is an S format and the others are I formats with an ASDU of LENGTH
-//! octets, reads them back, and prints what came (`bench/apci`).
+//! `bench_layers COUNT LENGTH` makes COUNT APDUs, of which every eighth is an S format and the others are I formats with
+//! an ASDU of LENGTH octets, reads them back, and prints what came (`bench/apci`).
 #![tactic(auto)]
 
 mod meter;
