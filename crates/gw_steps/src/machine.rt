@@ -1,5 +1,5 @@
 //! What makes steps.
-ghost use Rattle.std.specs.Prelude.{◌≡◌, ◌+◌, ◌≤◌, ◌↔◌, drop, length, take};
+ghost use Rattle.std.specs.Prelude.{◌≡◌, ◌+◌, ◌-◌, ◌≤◌, ◌↔◌, drop, length, min, take};
 ghost use Rattle.std.specs.Prelude.{true, false, IfOk, IsTrue, Some, slice_get};
 ghost use Rattle.gw_steps.specs.State.{Hub};
 ghost use Rattle.gw_steps.specs.Steps.{client_up, Allowed};
@@ -79,7 +79,7 @@ pub trait Machine: Sized + Drop {
     /// Copies what is shown of the rows from a position on, as many as find room; how many these are.
     fn copy_picture(&self, position: usize, room: &mut [Observation]) -> usize
         ensures room { length room.new ≡ length room.old }
-        ensures few { result ≤ length room.old }
+        ensures count { result ≡ min (length (seen self.now).state.picture - position) (length room.old) }
         ensures shown { take result room.new ≡ take result (drop position (seen self.now).state.picture) };
 
     /// For each outstation the orders that wait for it, and the one that is under way to it.

@@ -1,6 +1,6 @@
 //! What lies under the lock.
-ghost use Rattle.std.specs.Prelude.{◌≡◌, ◌↔◌, ◌+◌, ◌<◌, ◌≤◌, [], ◌∷◌};
-ghost use Rattle.std.specs.Prelude.{length, Some, true, false, IfOk, IsTrue};
+ghost use Rattle.std.specs.Prelude.{◌≡◌, ◌↔◌, ◌+◌, ◌-◌, ◌<◌, ◌≤◌, [], ◌∷◌, drop, length, min, take};
+ghost use Rattle.std.specs.Prelude.{Some, true, false, IfOk, IsTrue};
 ghost use Rattle.gw_steps.specs.declared.step.Step.TheVariants as steps;
 ghost use Rattle.gw_steps.specs.Sound.{IsSoundState};
 ghost use Rattle.gw_steps.specs.Steps.{client_up, Allowed};
@@ -315,7 +315,8 @@ impl<L: Course, M: Machine> Core<L, M> {
     /// Copies what is shown of the rows from a position on, as many as find room; how many these are.
     pub fn copy_picture(&self, position: usize, room: &mut [Observation]) -> usize
         ensures room { length room.new ≡ length room.old }
-        ensures few { result ≤ length room.old }
+        ensures count { result ≡ min (length self.now.hub.state.picture - position) (length room.old) }
+        ensures shown { take result room.new ≡ take result (drop position self.now.hub.state.picture) }
     {
         self.machine.copy_picture(position, room)
     }

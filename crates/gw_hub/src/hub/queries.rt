@@ -1,5 +1,5 @@
 //! What a hub looks up in its state. It changes nothing.
-ghost use Rattle.std.specs.Prelude.{◌≡◌, ◌≤◌, drop, length, slice_get, slice_index, take};
+ghost use Rattle.std.specs.Prelude.{◌≡◌, ◌-◌, drop, length, min, slice_get, slice_index, take};
 ghost use Rattle.gw_steps.specs.declared.step.StepFault.TheVariants.{NoClient, NoOutstation};
 ghost use Rattle.gw_steps.specs.Steps.{can_order, client_up, command_of, fault_unless_up, is_ordering, latest, outstation_up};
 ghost use Rattle.gw_hub.specs.Hub.{can_take, unless};
@@ -104,7 +104,7 @@ impl Hub {
 /// Copies what is shown of the rows from a position on, as many as find room; how many these are.
 pub(super) fn copy_rows(picture: &[Observation], position: usize, room: &mut [Observation]) -> usize
     ensures room { length room.new ≡ length room.old }
-    ensures few { result ≤ length room.old }
+    ensures count { result ≡ min (length picture.now - position) (length room.old) }
     ensures shown { take result room.new ≡ take result (drop position picture.now) }
 {
     if picture.len() <= position {
