@@ -31,7 +31,7 @@ QUIET, LONGEST_WAIT, LONGEST_REST = 60_000, 4000, 1000
 # How a reader ends if nothing of what comes is an answer, and if the status of the link doesn't come.
 UNANSWERED, LINK_UNANSWERED = 3, 4
 # How many orders of an outstation wait at most or are under way, and how many passes there are.
-MOST_ORDERS, PASSES = 17, 37
+MOST_ORDERS, PASSES = 17, 81
 # What the peers do: the milliseconds from one poll to the next where they are rare, from the front of what was cut to its end, from
 # the first outstation's connection to that of the next; into how many fragments the events go that an outstation keeps; how many
 # pieces are on their way to a centre at most; how many fragments, repetitions among them, an outstation has on their way at most.

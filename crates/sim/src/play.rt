@@ -5,7 +5,7 @@ use crate::centres::{Centres, Gathers};
 use crate::ends::{Outbox, Outlet};
 use crate::outstation_part::OutstationPart;
 use crate::passes::{Workers, two_of};
-use crate::scene::{Pair, Part, Scene};
+use crate::scene::{Lent, Pair, Part, Scene};
 use crate::ticker::Ticker;
 use gw_threads::{Clock, Gate};
 use run_ends::{Line, LineCourse, Opened, Sending, open_line};
@@ -21,13 +21,13 @@ const ROUNDS: u64 = 100_000;
 /// The milliseconds in which all workers end, once they are asked to.
 const ENDING_MS: u64 = 10_000;
 
-/// So many outstations at most: each has a line of a type of its own, so they are parts of a type that tells how many they are.
+/// So many outstations at most: each has a line of a type of its own, so a type tells how many they are.
 pub trait Outstations {
     /// Adds the outstations from a number on, and plays with them and the rest.
-    fn add<L: Course, S: Calls<L>, R: Wait, G: Gate, P: Workers<L> + Drop, W: Write>(
+    fn add<L: Course, S: Calls<L>, R: Wait, G: Gate, P: Part, W: Write>(
         scene: &Scene<'_, L, S, R, G>,
         number: u8,
-        rest: P,
+        rest: &mut P,
         passes: &mut Vec<Pass<L>>,
         writer: &mut W,
     ) -> io::Result<()>;
@@ -42,25 +42,22 @@ pub struct OneMore<O> {
 }
 
 impl Outstations for Nobody {
-    fn add<L: Course, S: Calls<L>, R: Wait, G: Gate, P: Workers<L> + Drop, W: Write>(
+    fn add<L: Course, S: Calls<L>, R: Wait, G: Gate, P: Part, W: Write>(
         scene: &Scene<'_, L, S, R, G>,
         _number: u8,
-        rest: P,
-        passes: &mut Vec<Pass<L>>,
+        rest: &mut P,
+        _passes: &mut Vec<Pass<L>>,
         writer: &mut W,
     ) -> io::Result<()> {
-        let mut all = rest;
-        let played = play_all::<L, S, R, G, P, W>(scene, &mut all, writer);
-        all.give(passes);
-        played
+        play_all::<L, S, R, G, P, W>(scene, rest, writer)
     }
 }
 
 impl<O: Outstations> Outstations for OneMore<O> {
-    fn add<L: Course, S: Calls<L>, R: Wait, G: Gate, P: Workers<L> + Drop, W: Write>(
+    fn add<L: Course, S: Calls<L>, R: Wait, G: Gate, P: Part, W: Write>(
         scene: &Scene<'_, L, S, R, G>,
         number: u8,
-        rest: P,
+        rest: &mut P,
         passes: &mut Vec<Pass<L>>,
         writer: &mut W,
     ) -> io::Result<()> {
@@ -68,26 +65,17 @@ impl<O: Outstations> Outstations for OneMore<O> {
             Some(outbox) => add_next::<O, L, S, R, G, P, W>(
                 scene, number, outbox, rest, passes, writer,
             ),
-            None => Nobody::add::<L, S, R, G, P, W>(scene, number, rest, passes, writer),
+            None => play_all::<L, S, R, G, P, W>(scene, rest, writer),
         }
     }
 }
 
 /// Opens the line of an outstation, and adds that.
-fn add_next<
-    'a,
-    O: Outstations,
-    L: Course,
-    S: Calls<L>,
-    R: Wait,
-    G: Gate,
-    P: Workers<L> + Drop,
-    W: Write,
->(
+fn add_next<'a, O: Outstations, L: Course, S: Calls<L>, R: Wait, G: Gate, P: Part, W: Write>(
     scene: &Scene<'a, L, S, R, G>,
     number: u8,
     outbox: &'a Outbox,
-    rest: P,
+    rest: &mut P,
     passes: &mut Vec<Pass<L>>,
     writer: &mut W,
 ) -> io::Result<()> {
@@ -108,14 +96,14 @@ fn add_one<
     S: Calls<L>,
     R: Wait,
     G: Gate,
-    P: Workers<L> + Drop,
+    P: Part,
     W: Write,
 >(
     scene: &Scene<'a, L, S, R, G>,
     number: u8,
     outbox: &'a Outbox,
     history: Opened<Sending>,
-    rest: P,
+    rest: &mut P,
     passes: &mut Vec<Pass<L>>,
     writer: &mut W,
 ) -> io::Result<()>
@@ -129,12 +117,29 @@ fn add_one<
     let Some(two) = two_of(passes) else {
         return Ok(());
     };
-    let all = Pair {
-        first: OutstationPart::new(scene, number, peer, outbox, &line, two),
+    let mut part = OutstationPart::new(scene, number, peer, outbox, &line, two);
+    let played = add_behind::<O, L, S, R, G, _, P, W>(
+        scene, number, &mut part, rest, passes, writer,
+    );
+    part.give(passes);
+    played
+}
+
+/// Adds the outstations behind one, and plays with it, them and the rest.
+fn add_behind<O: Outstations, L: Course, S: Calls<L>, R: Wait, G: Gate, A: Part, P: Part, W: Write>(
+    scene: &Scene<'_, L, S, R, G>,
+    number: u8,
+    part: &mut A,
+    rest: &mut P,
+    passes: &mut Vec<Pass<L>>,
+    writer: &mut W,
+) -> io::Result<()> {
+    let mut all = Lent {
+        first: part,
         second: rest,
     };
     let next = number.saturating_add(1);
-    O::add::<L, S, R, G, _, W>(scene, next, all, passes, writer)
+    O::add::<L, S, R, G, _, W>(scene, next, &mut all, passes, writer)
 }
 
 /// Plays with the clock and the control centres, and such outstations. The passes come back.
@@ -167,11 +172,13 @@ fn add_clock<
 ) -> io::Result<()> {
     let mut centres = rest;
     centres.gather(passes)?;
-    let all = Pair {
+    let mut all = Pair {
         first: Ticker::new(scene, pass),
         second: centres,
     };
-    O::add::<L, S, R, G, _, W>(scene, 0, all, passes, writer)
+    let played = O::add::<L, S, R, G, _, W>(scene, 0, &mut all, passes, writer);
+    all.give(passes);
+    played
 }
 
 /// Plays with all parts, until the workers have ended.

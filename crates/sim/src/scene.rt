@@ -102,6 +102,28 @@ impl<A: Part, B: Part> Part for Pair<A, B> {
     }
 }
 
+/// Two of them, lent, so that each stands in one place however many there are.
+#[derive(Drop)]
+pub struct Lent<'a, 'b, A, B> {
+    pub first: &'a mut A,
+    pub second: &'b mut B,
+}
+
+impl<'a, 'b, A: Part, B: Part> Part for Lent<'a, 'b, A, B> {
+    fn due(&self) -> u64 {
+        self.first.due().min(self.second.due())
+    }
+
+    fn act(&mut self, now: u64) {
+        self.first.act(now);
+        self.second.act(now);
+    }
+
+    fn at_work(&self) -> u64 {
+        self.first.at_work().saturating_add(self.second.at_work())
+    }
+}
+
 impl<P: Part> Part for Vec<P> {
     fn due(&self) -> u64 {
         let mut due = u64::MAX;

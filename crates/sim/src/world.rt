@@ -16,14 +16,16 @@ use std::marker::{Brand, PhantomData};
 use std::sync::Wait;
 use std::sync::ledger::Blank;
 
-/// Two more outstations than of a type.
+/// Two more outstations than of a type, and eight more.
 type TwoMore<O> = OneMore<OneMore<O>>;
 
-/// Ten outstations at most. All of them stand on the stack, each of them once for each behind it, so many more find no room there.
-type Ten = TwoMore<TwoMore<TwoMore<TwoMore<TwoMore<Nobody>>>>>;
+type EightMore<O> = TwoMore<TwoMore<TwoMore<TwoMore<O>>>>;
 
-/// How many actors there are: two for each of ten outstations and eight control centres, and the clock.
-const ACTORS: usize = 37;
+/// As many outstations as a gateway has at most.
+type ThirtyTwo = EightMore<EightMore<EightMore<EightMore<Nobody>>>>;
+
+/// How many actors there are: two for each of 32 outstations and eight control centres, and the clock.
+const ACTORS: usize = 81;
 
 /// How many calls the recorder keeps.
 const RECORDED: usize = 256;
@@ -61,7 +63,7 @@ fn hub_of(alloc: Global, scenario: &Scenario) -> Option<Hub>
 
 /// What the core of a scenario is made of.
 fn opening_of(alloc: Global, scenario: &Scenario) -> Option<Opening>
-    ensures parts { IfSome result (λ opening. opening.blank.parts ≡ 37) }
+    ensures parts { IfSome result (λ opening. opening.blank.parts ≡ 81) }
     ensures first { IfSome result (λ opening. IsFirst opening.hub.setup opening.hub) }
 {
     let hub = hub_of(alloc, scenario)?;
@@ -81,7 +83,7 @@ fn play_on<L: Course, R: Wait + Print + AllocGlobal>(
     until: u64,
 ) -> io::Result<bool>
     requires name { opening.blank.name ≡ L.name }
-    requires parts { (opening.blank.parts ≡ L.parts) × (opening.blank.parts ≡ 37) }
+    requires parts { (opening.blank.parts ≡ L.parts) × (opening.blank.parts ≡ 81) }
     requires book { opening.history.seen.book ≡ L.book }
     requires first { IsFirst L.setup opening.hub }
     requires roles { L.roles ≡ anybody }
@@ -175,7 +177,7 @@ fn play_in<'x, L: Course, R: Wait + Print + AllocGlobal>(
     };
     let mut writer = BufWriter::new(rt.alloc(), io::writer(rt))?;
     let mut passes = passes;
-    play::<Ten, L, _, _, _, _>(&scene, &mut passes, &mut writer)?;
+    play::<ThirtyTwo, L, _, _, _, _>(&scene, &mut passes, &mut writer)?;
     let count = passes.len() as u64;
     if let Ok(closed) = shared.close(rt, passes) {
         log.add("total", &[count, closed.total]);

@@ -65,7 +65,7 @@ pub enum Number {
 pub const NUMBERS: usize = 37;
 
 /// How often in a thousand there are more outstations than usual, and the least and the largest number of them then.
-const MANY: (u64, u64, u64) = (40, 9, 10);
+const MANY: (u64, u64, u64) = (40, 9, 32);
 
 /// The milliseconds from one poll to the next where they are rare.
 const QUIET_POLL_MS: u64 = 200_000;
@@ -159,7 +159,7 @@ impl Scenario {
 
     /// How many outstations there are.
     pub fn outstations(&self) -> u64 {
-        self.of(Number::Outstations).max(1).min(10)
+        self.of(Number::Outstations).max(1).min(32)
     }
 
     /// How many control centres there are.
