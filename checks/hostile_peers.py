@@ -17,7 +17,7 @@ from judges.answers import ClientModel, Found, is_request
 from judges.reading import LINK_STATUS, Frame, Receiver, apdu_events, link_events, refusal_of
 from peers import HOST, Difference, confirmation
 from random_steps import random_asdu
-from watched_run import ANSWER_LIMIT, House
+from watched_run import ANSWER_LIMIT, House, patience
 
 # How many seconds behind a request its answer is taken in any case, and the end of what always is so.
 ANSWERED_IN, NEVER = 2, float("inf")
@@ -28,7 +28,7 @@ MOST_INPUTS = 300
 def received(connection: socket.socket, limit: float) -> bytes:
     """What comes on a connection next; nothing at the end of input, or where it was reset."""
     if not select.select([connection], [], [], max(0, limit))[0]:
-        raise Difference(f"nothing came in {ANSWER_LIMIT} s")
+        raise Difference(f"nothing came in {patience(ANSWER_LIMIT)} s")
     try:
         return connection.recv(65536)
     except OSError:
@@ -60,7 +60,7 @@ class HostilePeer:
 
     def begin(self, connection: socket.socket) -> None:
         connection.setsockopt(socket.IPPROTO_TCP, socket.TCP_NODELAY, 1)
-        connection.settimeout(ANSWER_LIMIT)
+        connection.settimeout(patience(ANSWER_LIMIT))
         self.connection, self.inputs, self.rest = connection, [], b""
 
     def send(self, rng: random.Random, octets: bytes) -> None:
@@ -156,7 +156,7 @@ class HostileOutstation(HostilePeer):
         """Sends an input, and judges what comes for it."""
         self.inputs.append(octets)
         self.send(rng, self.with_probe(octets))
-        end = time.monotonic() + ANSWER_LIMIT
+        end = time.monotonic() + patience(ANSWER_LIMIT)
         while self.wanted:
             self.hear(end - time.monotonic())
         self.credit.clear()
@@ -210,7 +210,7 @@ class HostileCentre(HostilePeer):
     """A control centre whose octets are wrong, and what its APDUs are owed."""
 
     def connect(self) -> None:
-        self.begin(socket.create_connection((HOST, self.house.port), ANSWER_LIMIT))
+        self.begin(socket.create_connection((HOST, self.house.port), patience(ANSWER_LIMIT)))
         self.model, self.stream, self.may_close, self.closes = ClientModel(self.setup, False), b"", False, False
 
     def feed(self, octets: bytes) -> None:
@@ -263,7 +263,7 @@ class HostileCentre(HostilePeer):
         octets = self.with_probe(rng, octets)
         with suppress(OSError):
             self.send(rng, octets)
-        end, stands = time.monotonic() + ANSWER_LIMIT, True
+        end, stands = time.monotonic() + patience(ANSWER_LIMIT), True
         while stands and (self.closes or self.model.confirmations or not self.model.owed.is_settled):
             stands = self.hear(end - time.monotonic())
         if not stands and not self.closes and not self.may_close:
@@ -342,11 +342,11 @@ def answer_of_status(place: str, octets: bytes) -> bytes:
     """What a request is answered: the octets up to the end of input, or to a reset."""
     host, port = place.split(":")
     answer = b""
-    with socket.create_connection((host, int(port)), ANSWER_LIMIT) as connection:
+    with socket.create_connection((host, int(port)), patience(ANSWER_LIMIT)) as connection:
         with suppress(OSError):
             connection.sendall(octets)
             connection.shutdown(socket.SHUT_WR)
-        while piece := received(connection, ANSWER_LIMIT):
+        while piece := received(connection, patience(ANSWER_LIMIT)):
             answer += piece
     return answer
 

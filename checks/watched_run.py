@@ -23,8 +23,9 @@ from random_steps import RULES, Setup, random_control, random_outstation, random
 
 # How many hostile outstations there are at a time.
 OUTSTATIONS = 2
-# How many seconds an answer may take, and within how many an event comes.
-ANSWER_LIMIT, EVENT_LIMIT = 5.0, 2.0
+# How many seconds an answer may take, and within how many an event comes; and how many times as long that may be with a program
+# that checks its addresses.
+ANSWER_LIMIT, EVENT_LIMIT, CHECKED_TIMES = 5.0, 2.0, 4
 # The setting `queue`.
 QUEUE = 20_000
 # The honest control centre's control, and the seconds between its commands.
@@ -89,9 +90,9 @@ class Operator:
         self.centre.ask(asdu(45, ACTIVATION, OPERATED, element))
         for cause in (CONFIRMATION, TERMINATION):
             try:
-                got = self.answers.get(timeout=EVENT_LIMIT)
+                got = self.answers.get(timeout=patience(EVENT_LIMIT))
             except queue.Empty:
-                raise Difference(f"a command isn't answered within {EVENT_LIMIT} s") from None
+                raise Difference(f"a command isn't answered within {patience(EVENT_LIMIT)} s") from None
             same_octets("the answer to a command", got, asdu(45, cause, OPERATED, element))
         self.delays.append(time.monotonic() - began)
 
@@ -147,10 +148,15 @@ class Log:
             raise Difference(f"orders {wrong[:5]} have no end or several, or were operated more than once")
 
 
+def patience(seconds: float) -> float:
+    """How long something may take with the program that is tried."""
+    return seconds * CHECKED_TIMES if House.is_checked else seconds
+
+
 class House:
     """A gateway with random settings between an honest and some hostile outstations, and an honest control centre."""
 
-    # Whether the program checks its addresses as it runs.
+    # Whether the program checks its addresses as it runs, and is far slower by it.
     is_checked = False
 
     def __init__(self, program: str, seed: int, number: int, folder: str) -> None:
@@ -247,10 +253,10 @@ class House:
 
     def within(self, is_so: Callable[[], bool], what: str) -> None:
         """Waits until something is so."""
-        end = time.monotonic() + ANSWER_LIMIT
+        end = time.monotonic() + patience(ANSWER_LIMIT)
         while not is_so():
             if time.monotonic() > end:
-                raise Difference(f"wanted within {ANSWER_LIMIT} s: {what}")
+                raise Difference(f"wanted within {patience(ANSWER_LIMIT)} s: {what}")
             time.sleep(0.02)
 
     def asked(self, is_total: bool) -> list[tuple[int, int]]:
@@ -299,7 +305,7 @@ class House:
     def finish(self) -> None:
         """The honest peers were served, the gateway ends in order, and its record replays."""
         self.operator.end()
-        self.witness.end(EVENT_LIMIT)
+        self.witness.end(patience(EVENT_LIMIT))
         self.judge_rows()
         self.look()
         self.within(lambda: resources(self.process.pid)[1] == self.others, f"threads, files, children: {self.others}")

@@ -34,7 +34,7 @@ class Part:
     words: list
     folder: Path = ROOT
     environment: dict = field(default_factory=dict)
-    is_alone: bool = False
+    place: str = "beside"
 
     def run(self):
         """Runs it; gives itself, whether it passed, its seconds and what it wrote."""
@@ -67,7 +67,7 @@ def scripts(program, is_proved):
         name, beside, where, *words = line.split()
         kind, _, file = where.partition(":")
         if kind == "any" or kind == "proved" and is_proved and (not file or (ROOT / file).exists()):
-            parts.append(Part(name, [f"checks/{name}", *([] if is_proved else words)], ROOT, environment, beside == "alone"))
+            parts.append(Part(name, [f"checks/{name}", *([] if is_proved else words)], ROOT, environment, beside))
         elif kind == "proved":
             left_out.append(name)
     return parts, left_out
@@ -96,7 +96,8 @@ class Tally:
 
 
 def run_all(tally):
-    """Runs all: the crates' tests while the program is built, what may stand beside others, and what has to be alone."""
+    """Runs all: the crates' tests while the program is built, what may stand beside others, and what has to be alone, with what is
+    quiet beside it."""
     lanes = max(2, len(os.sched_getaffinity(0)))
     with ThreadPoolExecutor(lanes) as pool:
         is_proved = is_fresh(PROVED)
@@ -107,12 +108,15 @@ def run_all(tally):
                 it.cancel()
             return status, is_proved
         parts, left_out = scripts(PROVED if is_proved else UNPROVED, is_proved)
-        running += [pool.submit(it.run) for it in parts if not it.is_alone]
+        running += [pool.submit(it.run) for it in parts if it.place == "beside"]
         for it in as_completed(running):
             tally.take(*it.result())
-    for it in parts:
-        if it.is_alone:
-            tally.take(*it.run())
+        quiet = [pool.submit(it.run) for it in parts if it.place == "quiet"]
+        for it in parts:
+            if it.place == "alone":
+                tally.take(*it.run())
+        for it in quiet:
+            tally.take(*it.result())
     if left_out:
         tell(f"not run without proof: {' '.join(left_out)}")
     return 0, is_proved
