@@ -15,6 +15,7 @@ import time
 from pathlib import Path
 
 from building import NO_PROGRAM, PROVED, ROOT, Line, alone, install, is_fresh, run_builder, started, tell
+from proof_jobs import proof_jobs
 
 FOLDER = ROOT / "out/proving"
 LOG = FOLDER / "log"
@@ -149,7 +150,7 @@ def prove_in(place):
     copy(crates, place)
     course = Course(crates, place)
     tell(f"proving the program's {len(crates)} crates, which takes up to an hour the first time; the report is in {LOG}")
-    environment = {name: it for name, it in os.environ.items() if name != "CI"}
+    environment = {"RT_JOBS": str(proof_jobs())} | {name: it for name, it in os.environ.items() if name != "CI"}
     with open(LOG, "wb") as log:
         with started(["rt", "ci"], cwd=place, env=environment, stdout=subprocess.PIPE, stderr=subprocess.STDOUT) as process:
             status = follow(process, course, log)
