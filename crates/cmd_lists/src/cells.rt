@@ -2,7 +2,7 @@
 
 use crate::columns::{NEEDED, column_named};
 use crate::fault::ListFault;
-use crate::problem::shown;
+use crate::problem::shorten;
 use crate::told::Told;
 use csv::StringRecord;
 use std::alloc::{AllocError, Global};
@@ -70,7 +70,7 @@ impl Header {
             }
             Some(column) => Named::Column(column),
             None if name.is_empty() => Named::Nothing,
-            None => return self.refuse(ListFault::UnknownColumn(shown(alloc, name)?), faults),
+            None => return self.refuse(ListFault::UnknownColumn(shorten(alloc, name)?), faults),
         };
         self.fields.push(named)?;
         Ok(())

@@ -37,7 +37,7 @@ pub(crate) enum RowKind {
 
 impl RowKind {
     /// That of a word.
-    pub(crate) fn named(word: &str) -> Option<RowKind> {
+    pub(crate) fn from_word(word: &str) -> Option<RowKind> {
         if word.eq_ignore_ascii_case("control") {
             return Some(RowKind::Control);
         }

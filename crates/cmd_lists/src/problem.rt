@@ -113,7 +113,7 @@ impl CellProblem {
         found: &str,
         allowed: Allowed,
     ) -> Result<CellProblem, AllocError> {
-        let text = shown(alloc, found)?;
+        let text = shorten(alloc, found)?;
         if allowed.is_number() && has_decimal_comma(found) {
             Ok(CellProblem::DecimalComma(text))
         } else {
@@ -135,14 +135,14 @@ fn is_digits(text: &str) -> bool {
 }
 
 /// As much of a text as is told of it.
-pub(crate) fn shown(alloc: Global, text: &str) -> Result<String, AllocError> {
+pub(crate) fn shorten(alloc: Global, text: &str) -> Result<String, AllocError> {
     let mut front = String::new(alloc);
-    push_shown(text, &mut front)?;
+    push_shortened(text, &mut front)?;
     Ok(front)
 }
 
 /// Adds as much of a text as is told of it.
-fn push_shown(text: &str, front: &mut String) -> Result<(), AllocError> {
+fn push_shortened(text: &str, front: &mut String) -> Result<(), AllocError> {
     for (place, character) in text.chars().enumerate() {
         if place >= SHOWN {
             return front.push_str("..");

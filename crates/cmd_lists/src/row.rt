@@ -7,7 +7,7 @@ use crate::columns::COLUMNS;
 use crate::fault::ListFault;
 use crate::kinds::{KIND_WORDS, RowKind, shows_of};
 use crate::list::{ListRow, Listed};
-use crate::problem::{CellProblem, shown};
+use crate::problem::{CellProblem, shorten};
 use crate::reading::Outstations;
 use crate::told::Told;
 use cmd_names::without_apostrophe;
@@ -111,7 +111,7 @@ fn read_kind(
     cells: &Cells<'_>,
     faults: &mut Told<ListFault>,
 ) -> Result<Option<RowKind>, AllocError> {
-    let kind = RowKind::named(cells.at("kind"));
+    let kind = RowKind::from_word(cells.at("kind"));
     if kind.is_none() && cells.have("kind") {
         refuse_text(cells, "kind", Allowed::Kind(&KIND_WORDS), faults)?;
     }
@@ -232,7 +232,7 @@ fn judge_common_address(
     }
     match outstations.common_address(number_8(keys, "outstation")) {
         Some(common_address) if common_address != given => {
-            let found = shown(cells.alloc, cells.at("common_address"))?;
+            let found = shorten(cells.alloc, cells.at("common_address"))?;
             let problem = CellProblem::OtherCommon(found, common_address);
             refuse(cells, "common_address", problem, faults)
         }

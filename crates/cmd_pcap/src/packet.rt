@@ -124,7 +124,7 @@ impl<'a> Segment<'a> {
 fn words(sum: u16, octets: &[u8]) -> u16 {
     let mut sum = sum;
     for pair in octets.chunks(2) {
-        sum = added(sum, word(pair));
+        sum = sum_of(sum, word(pair));
     }
     sum
 }
@@ -139,7 +139,7 @@ fn word(pair: &[u8]) -> u16 {
 }
 
 /// The sum of two words in one's complement.
-fn added(one: u16, other: u16) -> u16 {
+fn sum_of(one: u16, other: u16) -> u16 {
     let sum = one.wrapping_add(other);
     sum.wrapping_add(u16::from(sum < one))
 }

@@ -65,7 +65,7 @@ impl Recorded {
     }
 
     /// What came of it, at its end.
-    fn captured(&mut self) -> Result<Captured, Memory> {
+    fn outcome(&mut self) -> Result<Captured, Memory> {
         let tape = self.capture.tape();
         tape.end()?;
         Ok(Captured {
@@ -114,7 +114,7 @@ pub fn capture<R: BufRead, W: Write>(
 ) -> Result<Captured, Stop> {
     let mut recorded = Recorded::new(alloc, settings)?;
     answer_lines(alloc, &mut recorded, reader, writer)?;
-    let captured = recorded.captured()?;
+    let captured = recorded.outcome()?;
     writer.write_all(recorded.capture.tape().ready())?;
     Ok(captured)
 }

@@ -127,9 +127,9 @@ impl Tape {
 
 /// Adds a packet: when it was, in seconds and microseconds, how many octets it has, twice, and these.
 fn push_packet(octets: &mut Vec<u8>, wall: u64, packet: &[u8]) -> Result<(), Memory> {
-    let seconds = narrowed(wall / 1000);
-    let microseconds = narrowed(wall % 1000 * 1000);
-    let length = narrowed(packet.len() as u64);
+    let seconds = narrow(wall / 1000);
+    let microseconds = narrow(wall % 1000 * 1000);
+    let length = narrow(packet.len() as u64);
     for field in [seconds, microseconds, length, length] {
         octets.extend_from_slice(&field.to_le_bytes())?;
     }
@@ -138,6 +138,6 @@ fn push_packet(octets: &mut Vec<u8>, wall: u64, packet: &[u8]) -> Result<(), Mem
 }
 
 /// A number as a field has it, or the largest one.
-fn narrowed(number: u64) -> u32 {
+fn narrow(number: u64) -> u32 {
     u32::try_from(number).unwrap_or(u32::MAX)
 }

@@ -274,7 +274,8 @@ fn write_unsorted<W: fmt::Write>(
 ) -> fmt::Result {
     write!(
         f,
-        "its points take {as_listed} I formats as they stand, and {sorted} sorted: sort the points of outstation {outstation} by type and address"
+        "its points take {as_listed} I formats as they stand, and {sorted} sorted: sort the points of outstation {outstation} \
+         by type and address"
     )
 }
 

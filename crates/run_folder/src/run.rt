@@ -208,7 +208,7 @@ fn free_name<R: Files<File = File> + AllocGlobal>(
         if listing.has(name.as_str()) {
             continue;
         }
-        if let Some(file) = taken(rt, folder, name.as_str())? {
+        if let Some(file) = take_name(rt, folder, name.as_str())? {
             return Ok((name, file));
         }
     }
@@ -216,7 +216,7 @@ fn free_name<R: Files<File = File> + AllocGlobal>(
 }
 
 /// The first `.about` of a run of this name, which is made and locked; none where another gateway was faster.
-fn taken<R: Files<File = File> + AllocGlobal>(
+fn take_name<R: Files<File = File> + AllocGlobal>(
     rt: &R,
     folder: &str,
     name: &str,

@@ -27,12 +27,12 @@ impl Name {
 fn field_of(alloc: Global, text: &str) -> Result<String, AllocError> {
     let front = if wants_apostrophe(text) { "'" } else { "" };
     let cell = format!(in alloc; "{front}{text}")?;
-    let field = quoted(alloc, cell.as_str())?;
+    let field = quote(alloc, cell.as_str())?;
     String::from_utf8(field).map_err(|_| AllocError)
 }
 
 /// A cell as a field. The writer quotes one with the mark of its comments, as one with a separator.
-fn quoted(alloc: Global, cell: &str) -> Result<Vec<u8>, AllocError> {
+fn quote(alloc: Global, cell: &str) -> Result<Vec<u8>, AllocError> {
     let mut writer = WriterBuilder::new()
         .comment(Some(OTHER_SEPARATOR))
         .from_writer(Vec::new(alloc));
