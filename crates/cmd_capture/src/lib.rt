@@ -15,7 +15,7 @@ mod step_line;
 mod waiting;
 
 pub use capture::Capture;
-pub use cmd_replay::{Instruction, push_reply, read_instruction, replay};
+pub use cmd_replay::{Instruction, push_reply, read_instruction};
 pub use gw_steps::Pumps;
 pub use kept::Kept;
 pub use lines::Lines;

@@ -52,52 +52,24 @@ fn serve_file<'a, R: System>(
     check_followers(file, asked)?;
     let (settings, source) = read_source(rt, file)?;
     let mut settings = Some(settings);
-    serve_source(rt, system, source, sessions, asked, &mut settings)
+    let request = RunRequest {
+        rt,
+        system,
+        source,
+        sessions,
+        asked,
+    };
+    request.serve_source(&mut settings)
 }
 
-/// Reads the names, and serves by settings, which are there.
-fn serve_source<'a, R: System>(
+/// What a run is asked for, and the system that it has.
+#[derive(Drop)]
+struct RunRequest<'a, 'b, R> {
     rt: &'a HostRuntime,
-    system: &R,
-    source: Source<'_>,
+    system: &'b R,
+    source: Source<'b>,
     sessions: Option<u32>,
-    asked: &RunOptions<'a>,
-    settings: &mut Option<Settings>,
-) -> Result<Closed, Unserved<'a>> {
-    let Some(known) = settings.as_ref() else {
-        return Err(Memory.into());
-    };
-    let Named { names, .. } = Named::read(rt, known, asked.names)?;
-    let followed = Followed::of(rt.alloc(), known, &names, asked)?;
-    serve_followed(
-        rt, system, source, sessions, asked, settings, names, &followed,
-    )
-}
-
-/// Opens the file of events, listens, and serves, with what is followed.
-fn serve_followed<'a, R: System>(
-    rt: &'a HostRuntime,
-    system: &R,
-    source: Source<'_>,
-    sessions: Option<u32>,
-    asked: &RunOptions<'a>,
-    settings: &mut Option<Settings>,
-    names: Names,
-    followed: &Followed,
-) -> Result<Closed, Unserved<'a>> {
-    let events = event_file(rt, asked).map_err(Unserved::Hindered)?;
-    let clock = SystemClock::new(system);
-    let Some(known) = settings.as_ref() else {
-        return Err(Memory.into());
-    };
-    let (entrances, journal) = begin(rt, system, &clock, known, source, names, asked)?;
-    let begun = Begun {
-        entrances: &entrances,
-        journal: &journal,
-        clock: &clock,
-        followed,
-    };
-    serve_begun(rt, system, source, sessions, asked, settings, begun, events)
+    asked: &'b RunOptions<'a>,
 }
 
 /// What is there before anything is served.
@@ -109,84 +81,114 @@ struct Begun<'a, R> {
     followed: &'a Followed,
 }
 
-/// Serves, with all that is there, by settings that are taken.
-fn serve_begun<'a, R: System>(
-    rt: &'a HostRuntime,
-    system: &R,
-    source: Source<'_>,
-    sessions: Option<u32>,
-    asked: &RunOptions<'a>,
-    settings: &mut Option<Settings>,
-    begun: Begun<'_, R>,
-    events: Option<EventFile<'_, HostRuntime>>,
-) -> Result<Closed, Unserved<'a>> {
-    let shown = Shown::of(rt, asked.status.is_some());
-    let values = begun.followed.values(rt.alloc())?;
-    let Some(settings) = settings.take() else {
-        return Err(Memory.into());
-    };
-    let gateway = GatewayRun {
-        alloc: rt.alloc(),
-        system,
-        listener: &begun.entrances.listener,
-        options: Options {
-            identity: shown.identity(asked.site, source.file, source.digest),
-            sessions,
-            allow: &begun.entrances.allow,
-            until_eof: asked.until_eof.then_some(rt.stdin()),
-            status: begun.entrances.status.as_ref(),
-            needs_centre: asked.needs_centre,
-            is_recorded: asked.record.is_some() || asked.record_folder.is_some(),
-            process: shown.process(),
-            values: values.as_ref(),
-            events: begun.followed.queue.as_ref(),
-        },
-        journal: begun.journal,
-        clock: begun.clock,
-    };
-    match events {
-        Some(events) => gateway.serve_writing(rt, settings, source, asked, begun.followed, events),
-        None => gateway.serve_asked(rt, settings, source, asked),
+impl<'a, 'b, R: System> RunRequest<'a, 'b, R> {
+    /// Reads the names, and serves by settings, which are there.
+    fn serve_source(&self, settings: &mut Option<Settings>) -> Result<Closed, Unserved<'a>> {
+        let known = lend(settings)?;
+        let Named { names, .. } = Named::read(self.rt, known, self.asked.names)?;
+        let followed = Followed::of(self.rt.alloc(), known, &names, self.asked)?;
+        self.serve_followed(settings, names, &followed)
+    }
+
+    /// Opens the file of events, listens, and serves, with what is followed.
+    fn serve_followed(
+        &self,
+        settings: &mut Option<Settings>,
+        names: Names,
+        followed: &Followed,
+    ) -> Result<Closed, Unserved<'a>> {
+        let events = event_file(self.rt, self.asked).map_err(Unserved::Hindered)?;
+        let clock = SystemClock::new(self.system);
+        let (entrances, journal) = self.begin(&clock, lend(settings)?, names)?;
+        let begun = Begun {
+            entrances: &entrances,
+            journal: &journal,
+            clock: &clock,
+            followed,
+        };
+        self.serve_begun(settings, begun, events)
+    }
+
+    /// Listens, and begins the journal.
+    fn begin(
+        &self,
+        clock: &SystemClock<'_, R>,
+        settings: &Settings,
+        names: Names,
+    ) -> Result<(Entrances, Journal), Unserved<'a>> {
+        let entrances = Entrances::open(self.rt.alloc(), self.system, settings, self.asked)?;
+        let journal = self.begin_journal(clock, settings, names)?;
+        Ok((entrances, journal))
+    }
+
+    /// The journal, which is told that the gateway starts.
+    fn begin_journal(
+        &self,
+        clock: &SystemClock<'_, R>,
+        settings: &Settings,
+        names: Names,
+    ) -> Result<Journal, Unserved<'a>> {
+        let alloc = self.rt.alloc();
+        let journal = journal_of(alloc, settings, is_journal(self.rt))?.with_names(names);
+        tell_start(
+            alloc,
+            self.system,
+            &journal,
+            clock.wall(),
+            settings,
+            self.source,
+            self.asked.values,
+        )?;
+        Ok(journal)
+    }
+
+    /// Serves, with all that is there, by settings that are taken.
+    fn serve_begun(
+        &self,
+        settings: &mut Option<Settings>,
+        begun: Begun<'_, R>,
+        events: Option<EventFile<'_, HostRuntime>>,
+    ) -> Result<Closed, Unserved<'a>> {
+        let (rt, asked) = (self.rt, self.asked);
+        let shown = Shown::of(rt, asked.status.is_some());
+        let values = begun.followed.values(rt.alloc())?;
+        let Some(settings) = settings.take() else {
+            return Err(Memory.into());
+        };
+        let gateway = GatewayRun {
+            alloc: rt.alloc(),
+            system: self.system,
+            listener: &begun.entrances.listener,
+            options: Options {
+                identity: shown.identity(asked.site, self.source.file, self.source.digest),
+                sessions: self.sessions,
+                allow: &begun.entrances.allow,
+                until_eof: asked.until_eof.then_some(rt.stdin()),
+                status: begun.entrances.status.as_ref(),
+                needs_centre: asked.needs_centre,
+                is_recorded: asked.record.is_some() || asked.record_folder.is_some(),
+                process: shown.process(),
+                values: values.as_ref(),
+                events: begun.followed.queue.as_ref(),
+            },
+            journal: begun.journal,
+            clock: begun.clock,
+        };
+        match events {
+            Some(events) => {
+                gateway.serve_writing(rt, settings, self.source, asked, begun.followed, events)
+            }
+            None => gateway.serve_asked(rt, settings, self.source, asked),
+        }
     }
 }
 
-/// Listens, and begins the journal.
-fn begin<'a, R: System>(
-    rt: &HostRuntime,
-    system: &R,
-    clock: &SystemClock<'_, R>,
-    settings: &Settings,
-    source: Source<'_>,
-    names: Names,
-    asked: &RunOptions<'a>,
-) -> Result<(Entrances, Journal), Unserved<'a>> {
-    let entrances = Entrances::open(rt.alloc(), system, settings, asked)?;
-    let journal = begun_journal(rt, system, clock, settings, source, names, asked)?;
-    Ok((entrances, journal))
-}
-
-/// The journal, which is told that the gateway starts.
-fn begun_journal<'a, R: System>(
-    rt: &HostRuntime,
-    system: &R,
-    clock: &SystemClock<'_, R>,
-    settings: &Settings,
-    source: Source<'_>,
-    names: Names,
-    asked: &RunOptions<'_>,
-) -> Result<Journal, Unserved<'a>> {
-    let journal = journal_of(rt.alloc(), settings, is_journal(rt))?.with_names(names);
-    let wall = clock.wall();
-    tell_start(
-        rt.alloc(),
-        system,
-        &journal,
-        wall,
-        settings,
-        source,
-        asked.values,
-    )?;
-    Ok(journal)
+/// Settings that are lent, which are there until they are taken.
+fn lend<'a>(settings: &Option<Settings>) -> Result<&Settings, Unserved<'a>> {
+    match settings {
+        Some(known) => Ok(known),
+        None => Err(Memory.into()),
+    }
 }
 
 /// What is served, and what is told of it.

@@ -139,9 +139,7 @@ impl<T: ClientStream + Drop> Accepting<T> {
         let moment = reporter.clock.moment();
         self.waiting
             .make_way(reporter.rt, reporter.peers, slots, moment);
-        if let Some(left_out) = slots.taken(reporter.rt, reporter.clock.wall()) {
-            reporter.tell(JournalEvent::AllPlacesTaken { left_out });
-        }
+        slots.tell_full(reporter);
     }
 }
 
@@ -160,9 +158,7 @@ fn assign<T: ClientStream + Drop, R: Wait, C: Clock>(
             ClientConnection::new(client.address, order, moment),
         );
     }
-    if let Some(left_out) = slots.assign(reporter.rt, slot, client, reporter.clock.wall()) {
-        reporter.tell(JournalEvent::AllPlacesTaken { left_out });
-    }
+    slots.assign(reporter, slot, client);
 }
 
 /// Accepts clients, and gives each a slot once one is free, until there were as many as there may be, or standard input
@@ -183,26 +179,31 @@ pub fn accept<R: Wait + Sleeps, C: Clock>(
             AwaitedClient::Nothing => return,
             AwaitedClient::Time => thread::sleep(reporter.rt, Duration::from_millis(LOOK_MS)),
             AwaitedClient::Client | AwaitedClient::ClientOrTime => {
-                look_up(acceptor, &mut looks_up, awaited);
-                accept_next(reporter, acceptor, &mut accepting);
+                if look_up(acceptor, &mut looks_up, awaited) {
+                    accept_next(reporter, acceptor, &mut accepting);
+                } else {
+                    thread::sleep(reporter.rt, Duration::from_millis(LOOK_MS));
+                }
             }
         }
     }
 }
 
 /// Lets the listener come back from its waits while clients wait for a slot, and where it has to see the end of standard
-/// input. `looks_up` is whether it does.
-fn look_up(acceptor: &Acceptor<'_>, looks_up: &mut bool, awaited: AwaitedClient) {
+/// input. `looks_up` is whether it does. Whether it may be waited at: it comes back if it has to.
+fn look_up(acceptor: &Acceptor<'_>, looks_up: &mut bool, awaited: AwaitedClient) -> bool {
     let wanted = acceptor.until_eof.is_some() || matches!(awaited, AwaitedClient::ClientOrTime);
-    if wanted == *looks_up {
-        return;
+    if wanted != *looks_up {
+        let is_so = if wanted {
+            look_up_from_accept(acceptor.listener)
+        } else {
+            stay_in_accept(acceptor.listener)
+        };
+        if is_so {
+            *looks_up = wanted;
+        }
     }
-    *looks_up = wanted;
-    if wanted {
-        look_up_from_accept(acceptor.listener);
-    } else {
-        stay_in_accept(acceptor.listener);
-    }
+    *looks_up || !wanted
 }
 
 /// Accepts the next client, if one comes in time.

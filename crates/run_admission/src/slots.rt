@@ -2,7 +2,9 @@
 
 use crate::client_stream::ClientStream;
 use gw_model::Memory;
-use run_journal::LineBudget;
+use run_clock::Clock;
+use run_journal::{JournalEvent, LineBudget};
+use run_peers::Reporter;
 use std::alloc::Global;
 use std::net::{SocketAddr, TcpStream};
 use std::sync::{Condvar, Mutex, Wait};
@@ -72,23 +74,23 @@ impl<T: ClientStream + Drop> Slots<T> {
         self.table.lock(rt).free_slot()
     }
 
-    /// Gives a client a slot that is free. Where it is to be told that none is then, at a time, how often that wasn't
-    /// told before.
-    pub fn assign<R: Wait>(
+    /// Gives a client a slot that is free. That none is free then is told here if it is to be, as what follows is told under the
+    /// lock, so that the lines stand in their order.
+    pub fn assign<R: Wait, C: Clock>(
         &self,
-        rt: &R,
+        reporter: &Reporter<'_, R, C>,
         slot: u8,
         client: AcceptedClient<T>,
-        wall: u64,
-    ) -> Option<u64> {
-        let told = self.table.lock(rt).give(slot, client, wall);
+    ) {
+        let mut table = self.table.lock(reporter.rt);
+        table.give(slot, client);
+        table.tell_full(reporter);
         self.changed.notify_all();
-        told
     }
 
-    /// Where it is to be told that no slot is free, at a time, how often that wasn't told before.
-    pub fn taken<R: Wait>(&self, rt: &R, wall: u64) -> Option<u64> {
-        self.table.lock(rt).taken(wall)
+    /// Tells that no slot is free, if that is so and is to be told.
+    pub fn tell_full<R: Wait, C: Clock>(&self, reporter: &Reporter<'_, R, C>) {
+        self.table.lock(reporter.rt).tell_full(reporter);
     }
 
     /// No further client is accepted.
@@ -108,11 +110,13 @@ impl<T: ClientStream + Drop> Slots<T> {
         self.changed.notify_all();
     }
 
-    /// The workers of a slot are there again; whether it is to be told, at a time, that a slot is free.
-    pub fn free<R: Wait>(&self, rt: &R, slot: u8, wall: u64) -> bool {
-        let is_told = self.table.lock(rt).free(slot, wall);
+    /// The workers of a slot are there again. That a slot is free is told if it was told that none was.
+    pub fn free<R: Wait, C: Clock>(&self, reporter: &Reporter<'_, R, C>, slot: u8) {
+        let mut table = self.table.lock(reporter.rt);
+        if table.free(slot, reporter.clock.wall()) {
+            reporter.tell(JournalEvent::PlaceFree);
+        }
         self.changed.notify_all();
-        is_told
     }
 
     /// The workers of a slot wait for their next client; none where no further one comes.
@@ -124,7 +128,7 @@ impl<T: ClientStream + Drop> Slots<T> {
     }
 
     /// The client that a slot was given and whose workers don't serve it yet, if there is one.
-    pub fn given<R: Wait>(&self, rt: &R, slot: u8) -> Option<AcceptedClient<T>> {
+    pub fn take_given<R: Wait>(&self, rt: &R, slot: u8) -> Option<AcceptedClient<T>> {
         self.table.lock(rt).take_given(slot)
     }
 
@@ -184,13 +188,14 @@ impl<T: ClientStream + Drop> SlotTable<T> {
         was_told
     }
 
-    /// Where it is to be told that no slot is free, how often that wasn't told before.
-    fn taken(&mut self, wall: u64) -> Option<u64> {
-        if self.has_free() || self.is_told || !self.lines.take(wall) {
-            return None;
+    /// Tells that no slot is free, if that is so and is to be told, with how often it wasn't told before.
+    fn tell_full<R: Wait, C: Clock>(&mut self, reporter: &Reporter<'_, R, C>) {
+        if self.has_free() || self.is_told || !self.lines.take(reporter.clock.wall()) {
+            return;
         }
         self.is_told = true;
-        Some(std::mem::replace(&mut self.left_out, 0))
+        let left_out = std::mem::replace(&mut self.left_out, 0);
+        reporter.tell(JournalEvent::AllPlacesTaken { left_out });
     }
 
     /// The lowest slot that is free.
@@ -202,12 +207,11 @@ impl<T: ClientStream + Drop> SlotTable<T> {
         u8::try_from(slot).ok()
     }
 
-    /// Gives a client a slot. Where it is to be told that none is free then, how often that wasn't told before.
-    fn give(&mut self, slot: u8, client: AcceptedClient<T>, wall: u64) -> Option<u64> {
+    /// Gives a client a slot.
+    fn give(&mut self, slot: u8, client: AcceptedClient<T>) {
         if let Some(slot) = self.slots.get_mut(usize::from(slot)) {
             *slot = Slot::Given(client);
         }
-        self.taken(wall)
     }
 
     /// Whether the workers of a slot have nothing to do yet.

@@ -3,17 +3,16 @@
 use crate::beside::beside;
 use crate::ending::Ending;
 use crate::passes::{Passes, PumpPass};
-use crate::server::{Server, is_made};
+use crate::server::Server;
 use crate::sockets::ClientSocket;
 use crate::system::System;
 use gw_threads::{
     Calls, Clock, Course, Gate, Pass, Step, Why, WorkerEnd, client_reader, client_writer,
 };
 use run_admission::{AcceptedClient, Slots};
-use run_journal::{Cause, JournalEvent};
+use run_journal::Cause;
 use run_peers::{Reporter, shut};
 use std::net::TcpStream;
-use std::rt::Clock as Sleeps;
 use std::sync::Wait;
 
 /// The passes of the workers of a slot for clients.
@@ -28,139 +27,146 @@ struct Connection<'b> {
     socket: ClientSocket<'b>,
 }
 
-impl<'b> Connection<'b> {
-    /// The reader, and the end of its connection.
-    fn read<L: Course, S: Calls<L>, R: Wait, C: Clock, G: Gate>(
+impl<'a, S: Sync, R: System, C: Clock + Sync, G: Gate + Sync> Server<'a, S, R, C, G> {
+    /// Serves the clients that get this slot, until no further one comes.
+    pub fn serve_slot<L: Course + Send + Sync>(
         &self,
-        server: &Server<'_, S, R, C, G>,
-        pass: Pass<L>,
-    ) -> (Pass<L>, WorkerEnd) {
-        let mut input = self.socket;
-        let (reporter, shared) = (server.reporter, server.shared);
-        let ended = client_reader(
-            reporter.alloc,
-            reporter.rt,
-            shared,
-            pass,
-            self.client,
-            &mut input,
-            reporter.clock,
-            server.gate,
+        slots: &Slots,
+        passes: ClientPasses<L>,
+    ) -> ClientPasses<L>
+    where
+        S: Calls<L>,
+    {
+        let mut passes = passes;
+        let (reporter, slot) = (self.reporter, passes.writer.client());
+        for _ in reporter.rt.forever() {
+            let Some(accepted) = slots.next(reporter.rt, slot) else {
+                break;
+            };
+            passes = self.serve_client(slot, passes, accepted);
+            slots.free(reporter, slot);
+        }
+        passes
+    }
+
+    /// Serves one client.
+    fn serve_client<L: Course + Send + Sync>(
+        &self,
+        client: u8,
+        passes: ClientPasses<L>,
+        accepted: AcceptedClient,
+    ) -> ClientPasses<L>
+    where
+        S: Calls<L>,
+    {
+        let mut passes = passes;
+        let reporter = self.reporter;
+        let moment = reporter.clock.moment();
+        if !self.make_step(&mut passes.reader, Step::ClientUp { client, moment }) {
+            shut(&accepted.stream);
+            reporter.forget_client(client);
+            return passes;
+        }
+        reporter.client_connected(client, accepted.address);
+        let (passes, met) = self.serve_client_on(client, passes, &accepted.stream);
+        // What became of it by the steps of others is told before.
+        reporter.peers.sequence.settle(reporter.rt);
+        let cause = cause_of(reporter, client, self.shared.stopping(), met);
+        let dropped = self.shared.figures(reporter.rt).dropped;
+        reporter.client_lost(client, accepted.address, cause, &dropped);
+        passes
+    }
+
+    /// Serves one client on its connection, until that ends; why it ended.
+    fn serve_client_on<L: Course + Send + Sync>(
+        &self,
+        client: u8,
+        passes: ClientPasses<L>,
+        stream: &TcpStream,
+    ) -> (ClientPasses<L>, Cause)
+    where
+        S: Calls<L>,
+    {
+        let ending = Ending::new();
+        let socket = ClientSocket::new(stream, &ending);
+        let connection = Connection {
+            stream,
+            ending: &ending,
+            client,
+            socket,
+        };
+        self.exchange_with_client(&connection, passes)
+    }
+
+    /// Both workers of a connection, the writer in a thread of its own, until both have ended; why it ended.
+    fn exchange_with_client<L: Course + Send + Sync>(
+        &self,
+        connection: &Connection<'_>,
+        passes: ClientPasses<L>,
+    ) -> (ClientPasses<L>, Cause)
+    where
+        S: Calls<L>,
+    {
+        let Passes { reader, writer } = passes;
+        let ((writer, written), (reader, read), is_begun) = beside(
+            self.reporter.rt,
+            move || self.write_client(connection, writer),
+            // The reader finds the connection shut, and the writer its peer down.
+            || connection.ending.end_writer(connection.stream),
+            move || self.read_client(connection, reader),
         );
-        self.ending.reader();
-        shut(self.stream);
+        let written = if is_begun { written } else { WorkerEnd::Memory };
+        let cause = connection.ending.cause(read, written);
+        (Passes { reader, writer }, cause)
+    }
+
+    /// The reader of a connection, and its end.
+    fn read_client<L: Course>(
+        &self,
+        connection: &Connection<'_>,
+        pass: Pass<L>,
+    ) -> (Pass<L>, WorkerEnd)
+    where
+        S: Calls<L>,
+    {
+        let mut input = connection.socket;
+        let ended = client_reader(
+            self.reporter.alloc,
+            self.reporter.rt,
+            self.shared,
+            pass,
+            connection.client,
+            &mut input,
+            self.reporter.clock,
+            self.gate,
+        );
+        connection.ending.end_reader(connection.stream);
         ended
     }
 
-    /// The writer, and the end of its connection.
-    fn write<L: Course, S: Calls<L>, R: Wait + Sleeps, C: Clock, G: Gate>(
+    /// The writer of a connection, and its end.
+    fn write_client<L: Course>(
         &self,
-        server: &Server<'_, S, R, C, G>,
+        connection: &Connection<'_>,
         pass: PumpPass<L>,
-    ) -> (PumpPass<L>, WorkerEnd) {
-        let mut output = self.socket;
-        let (reporter, shared) = (server.reporter, server.shared);
+    ) -> (PumpPass<L>, WorkerEnd)
+    where
+        S: Calls<L>,
+    {
+        let mut output = connection.socket;
         let (pass, client) = pass.into_parts();
         let (pass, end) = client_writer(
-            reporter.rt,
-            shared,
+            self.reporter.rt,
+            self.shared,
             pass,
             client,
             &mut output,
-            reporter.clock,
-            server.gate,
+            self.reporter.clock,
+            self.gate,
         );
-        self.end_writer();
+        connection.ending.end_writer(connection.stream);
         (PumpPass::new(pass, client), end)
     }
-
-    /// The writer has ended.
-    fn end_writer(&self) {
-        self.ending.writer();
-        shut(self.stream);
-    }
-}
-
-/// Both workers of a connection, the writer in a thread of its own, until both have ended; why it ended.
-fn exchange<
-    L: Course + Send + Sync,
-    S: Calls<L> + Sync,
-    R: System,
-    C: Clock + Sync,
-    G: Gate + Sync,
->(
-    server: &Server<'_, S, R, C, G>,
-    connection: &Connection<'_>,
-    passes: ClientPasses<L>,
-) -> (ClientPasses<L>, Cause) {
-    let Passes { reader, writer } = passes;
-    let ((writer, written), (reader, read), is_begun) = beside(
-        server.reporter.rt,
-        move || connection.write(server, writer),
-        // The reader finds the connection shut, and the writer its peer down.
-        || connection.end_writer(),
-        move || connection.read(server, reader),
-    );
-    let written = if is_begun { written } else { WorkerEnd::Memory };
-    let cause = connection.ending.cause(read, written);
-    (Passes { reader, writer }, cause)
-}
-
-/// Serves the clients that get this slot, until no further one comes.
-pub fn serve_slot<
-    L: Course + Send + Sync,
-    S: Calls<L> + Sync,
-    R: System,
-    C: Clock + Sync,
-    G: Gate + Sync,
->(server: &Server<'_, S, R, C, G>, slots: &Slots, passes: ClientPasses<L>) -> ClientPasses<L> {
-    let mut passes = passes;
-    let (reporter, slot) = (server.reporter, passes.writer.client());
-    for _ in reporter.rt.forever() {
-        let Some(accepted) = slots.next(reporter.rt, slot) else {
-            break;
-        };
-        passes = serve_client(server, slot, passes, accepted);
-        if slots.free(reporter.rt, slot, reporter.clock.wall()) {
-            reporter.tell(JournalEvent::PlaceFree);
-        }
-    }
-    passes
-}
-
-/// Serves one client.
-fn serve_client<
-    L: Course + Send + Sync,
-    S: Calls<L> + Sync,
-    R: System,
-    C: Clock + Sync,
-    G: Gate + Sync,
->(
-    server: &Server<'_, S, R, C, G>,
-    client: u8,
-    passes: ClientPasses<L>,
-    accepted: AcceptedClient,
-) -> ClientPasses<L> {
-    let mut passes = passes;
-    let reporter = server.reporter;
-    let moment = reporter.clock.moment();
-    if !is_made(
-        server,
-        &mut passes.reader,
-        Step::ClientUp { client, moment },
-    ) {
-        shut(&accepted.stream);
-        reporter.free_slot(client);
-        return passes;
-    }
-    reporter.client_connected(client, accepted.address);
-    let (passes, met) = serve_stream(server, client, passes, &accepted.stream);
-    // What became of it by the steps of others is told before.
-    reporter.peers.sequence.settle(reporter.rt);
-    let cause = cause_of(reporter, client, server.shared.stopping(), met);
-    let dropped = server.shared.figures(reporter.rt).dropped;
-    reporter.client_lost(client, accepted.address, cause, &dropped);
-    passes
 }
 
 /// Why a connection ended, by what its workers met, and by what became of its client: it was made to leave, a tick closed it, or
@@ -181,28 +187,4 @@ fn cause_of<R: Wait, C>(
             if record.leaves(reporter.rt) => { Cause::GaveWay }
         other => other,
     }
-}
-
-/// Serves one client on its connection, until that ends; why it ended.
-fn serve_stream<
-    L: Course + Send + Sync,
-    S: Calls<L> + Sync,
-    R: System,
-    C: Clock + Sync,
-    G: Gate + Sync,
->(
-    server: &Server<'_, S, R, C, G>,
-    client: u8,
-    passes: ClientPasses<L>,
-    stream: &TcpStream,
-) -> (ClientPasses<L>, Cause) {
-    let ending = Ending::new();
-    let socket = ClientSocket::new(stream, &ending);
-    let connection = Connection {
-        stream,
-        ending: &ending,
-        client,
-        socket,
-    };
-    exchange(server, &connection, passes)
 }

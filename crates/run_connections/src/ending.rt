@@ -2,7 +2,9 @@
 
 use gw_threads::WorkerEnd;
 use run_journal::{Cause, Failure};
+use run_peers::shut;
 use std::io::ErrorKind;
+use std::net::TcpStream;
 use std::sync::atomic::{AtomicU64, Ordering};
 
 /// Neither worker has ended yet.
@@ -32,30 +34,38 @@ impl Ending {
         }
     }
 
-    /// The reader has ended.
-    pub fn reader(&self) {
-        self.is_first(READER);
+    /// The reader has ended, and its connection with it.
+    pub fn end_reader(&self, stream: &TcpStream) {
+        self.note_reader();
+        shut(stream);
     }
 
-    /// The writer has ended.
-    pub fn writer(&self) {
-        self.is_first(WRITER);
+    /// The writer has ended, and its connection with it.
+    pub fn end_writer(&self, stream: &TcpStream) {
+        self.note_writer();
+        shut(stream);
+    }
+
+    /// Nothing more comes for the reader.
+    pub fn note_reader(&self) {
+        keep_first(&self.first, READER);
+    }
+
+    /// Nothing more is taken of the writer.
+    fn note_writer(&self) {
+        keep_first(&self.first, WRITER);
     }
 
     /// Reading failed.
-    pub fn not_read(&self, kind: ErrorKind) {
+    pub fn note_not_read(&self, kind: ErrorKind) {
         keep_first(&self.not_read, Failure::from(kind).code());
-        self.reader();
+        self.note_reader();
     }
 
-    /// Writing failed.
-    pub fn not_written(&self, kind: ErrorKind) {
+    /// Writing failed. That is noted before the writer tells it to the core, by which the reader ends.
+    pub fn note_not_written(&self, kind: ErrorKind) {
         keep_first(&self.not_written, Failure::from(kind).code());
-    }
-
-    /// One of the two has ended.
-    fn is_first(&self, worker: u64) {
-        keep_first(&self.first, worker);
+        self.note_writer();
     }
 
     /// Why the connection ended: what the reader met, unless that is only that the writer had ended before.

@@ -12,13 +12,12 @@ mod server;
 mod sockets;
 mod system;
 
-pub use client::{ClientPasses, serve_slot};
+pub use client::ClientPasses;
 pub use gw_threads::{
     Calls, Closed, Course, Effects, Gate, Observer, OpenGate, Pass, Place, Pumps, Reply, Shared,
     Step, StepFault, StepKind, clock,
 };
-pub use outstation::{OutstationPasses, serve_outstation};
+pub use outstation::OutstationPasses;
 pub use passes::{Passes, PollPass, PumpPass};
-pub use periodic_report::report_periodically;
 pub use server::Server;
 pub use system::System;

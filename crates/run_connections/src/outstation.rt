@@ -4,7 +4,7 @@ ghost use Rattle.std.specs.Prelude.{◌≡◌, false, None};
 use crate::beside::beside;
 use crate::ending::Ending;
 use crate::passes::{Passes, PollPass};
-use crate::server::{Server, is_made};
+use crate::server::Server;
 use crate::sockets::OutstationSocket;
 use crate::system::System;
 use dnp_receive::Receiver;
@@ -17,8 +17,6 @@ use run_journal::{Cause, Failure};
 use run_peers::{OutstationLink, shut};
 use std::marker::Brand;
 use std::net::{TcpStream, ToSocketAddrs};
-use std::rt::Clock as Sleeps;
-use std::sync::Wait;
 
 /// The passes of an outstation's workers.
 pub type OutstationPasses<L> = Passes<L, PollPass<L>>;
@@ -39,114 +37,191 @@ struct Connection<'a, 'b, N: LineCourse> {
     line: &'a Line<OutstationSocket<'b>, N>,
 }
 
-impl<'a, 'b, N: LineCourse> Connection<'a, 'b, N> {
-    /// The reader, and the end of its connection.
-    fn read<L: Course, S: Calls<L>, R: Wait, C: Clock, G: Gate>(
+impl<'a, S: Sync, R: System, C: Clock + Sync, G: Gate + Sync> Server<'a, S, R, C, G> {
+    /// Keeps a connection to an outstation, until the server ends.
+    pub fn serve_outstation<L: Course + Send + Sync>(
         &self,
-        server: &Server<'_, S, R, C, G>,
-        pass: Pass<L>,
-    ) -> (Pass<L>, WorkerEnd) {
-        let mut input = self.socket;
-        let (reporter, shared) = (server.reporter, server.shared);
-        let (pass, _, end) = outstation_reader(
-            reporter.alloc,
-            reporter.rt,
-            shared,
-            pass,
-            self.outstation,
-            Receiver::new(reporter.alloc, self.own, self.peer),
-            &mut input,
-            self.line,
-            reporter.clock,
-            server.gate,
-            self.patience,
+        link: &OutstationLink,
+        passes: OutstationPasses<L>,
+    ) -> OutstationPasses<L>
+    where
+        S: Calls<L>,
+    {
+        let mut passes = passes;
+        let outstation = passes.writer.outstation();
+        for _ in self.reporter.rt.forever() {
+            if self.shared.stopping() {
+                break;
+            }
+            match connect(self.reporter.rt, link) {
+                Ok(stream) => {
+                    passes = self.serve_connection(outstation, link, passes, &stream);
+                }
+                Err(cause) => self.reporter.outstation_unreachable(outstation, cause),
+            }
+            pause::<L, S, R>(self.reporter.rt, self.shared);
+        }
+        passes
+    }
+
+    /// One connection, from its up step to its end.
+    fn serve_connection<L: Course + Send + Sync>(
+        &self,
+        outstation: u8,
+        link: &OutstationLink,
+        passes: OutstationPasses<L>,
+        stream: &TcpStream,
+    ) -> OutstationPasses<L>
+    where
+        S: Calls<L>,
+    {
+        let mut passes = passes;
+        let moment = self.reporter.clock.moment();
+        if !self.make_step(
+            &mut passes.reader,
+            Step::OutstationUp { outstation, moment },
+        ) {
+            shut(stream);
+            return passes;
+        }
+        self.reporter.outstation_connected(outstation);
+        let (passes, met) = self.serve_outstation_on(outstation, link, passes, stream);
+        let cause = if self.shared.stopping() {
+            Cause::GatewayEnds
+        } else {
+            link.in_words(met)
+        };
+        self.reporter.outstation_lost(outstation, cause);
+        passes
+    }
+
+    /// Serves an outstation on its connection, until that ends; why it ended.
+    fn serve_outstation_on<L: Course + Send + Sync>(
+        &self,
+        outstation: u8,
+        link: &OutstationLink,
+        passes: OutstationPasses<L>,
+        stream: &TcpStream,
+    ) -> (OutstationPasses<L>, Cause)
+    where
+        S: Calls<L>,
+    {
+        match open_line() {
+            Some(history) => {
+                self.serve_line::<L, Brand>(outstation, link, passes, stream, history)
+            }
+            None => (passes, Cause::Memory),
+        }
+    }
+
+    /// The same, with a history of its line.
+    fn serve_line<L: Course + Send + Sync, N: LineCourse + Send + Sync>(
+        &self,
+        outstation: u8,
+        link: &OutstationLink,
+        passes: OutstationPasses<L>,
+        stream: &TcpStream,
+        history: Opened<Sending>,
+    ) -> (OutstationPasses<L>, Cause)
+    where
+        S: Calls<L>,
+        requires book { history.seen.book ≡ N.book }
+        requires addresses { (N.own ≡ link.now.own) × (N.peer ≡ link.now.peer) }
+        requires first { N.first ≡ None }
+        requires failed { N.failed ≡ false }
+    {
+        let ending = Ending::new();
+        let socket = OutstationSocket::new(stream, &ending, link);
+        let line: Line<OutstationSocket<'_>, N> = Line::new(socket, link.own, link.peer, history);
+        let connection = Connection {
+            stream,
+            ending: &ending,
+            outstation,
+            own: link.own,
+            peer: link.peer,
+            patience: Patience {
+                for_clients: link.patience_ms(),
+                for_answers: link.silence_ms(),
+                for_status: link.response_ms(),
+            },
+            socket,
+            line: &line,
+        };
+        self.exchange_with_outstation(&connection, passes)
+    }
+
+    /// Both workers of a connection, the writer in a thread of its own, until both have ended; why it ended.
+    fn exchange_with_outstation<L: Course + Send + Sync, N: LineCourse + Send + Sync>(
+        &self,
+        connection: &Connection<'_, '_, N>,
+        passes: OutstationPasses<L>,
+    ) -> (OutstationPasses<L>, Cause)
+    where
+        S: Calls<L>,
+    {
+        let Passes { reader, writer } = passes;
+        let ((writer, written), (reader, read), is_begun) = beside(
+            self.reporter.rt,
+            move || self.write_outstation(connection, writer),
+            // The reader finds the connection shut, and the writer its peer down.
+            || connection.ending.end_writer(connection.stream),
+            move || self.read_outstation(connection, reader),
         );
-        self.ending.reader();
-        shut(self.stream);
+        let written = if is_begun { written } else { WorkerEnd::Memory };
+        let cause = connection.ending.cause(read, written);
+        (Passes { reader, writer }, cause)
+    }
+
+    /// The reader of a connection, and its end.
+    fn read_outstation<L: Course, N: LineCourse>(
+        &self,
+        connection: &Connection<'_, '_, N>,
+        pass: Pass<L>,
+    ) -> (Pass<L>, WorkerEnd)
+    where
+        S: Calls<L>,
+    {
+        let mut input = connection.socket;
+        let alloc = self.reporter.alloc;
+        let (pass, _, end) = outstation_reader(
+            alloc,
+            self.reporter.rt,
+            self.shared,
+            pass,
+            connection.outstation,
+            Receiver::new(alloc, connection.own, connection.peer),
+            &mut input,
+            connection.line,
+            self.reporter.clock,
+            self.gate,
+            connection.patience,
+        );
+        connection.ending.end_reader(connection.stream);
         (pass, end)
     }
 
-    /// The writer, and the end of its connection.
-    fn write<L: Course, S: Calls<L>, R: Wait + Sleeps, C: Clock, G: Gate>(
+    /// The writer of a connection, and its end.
+    fn write_outstation<L: Course, N: LineCourse>(
         &self,
-        server: &Server<'_, S, R, C, G>,
+        connection: &Connection<'_, '_, N>,
         pass: PollPass<L>,
-    ) -> (PollPass<L>, WorkerEnd) {
-        let (reporter, shared) = (server.reporter, server.shared);
+    ) -> (PollPass<L>, WorkerEnd)
+    where
+        S: Calls<L>,
+    {
         let (pass, outstation) = pass.into_parts();
         let (pass, _, end) = outstation_writer(
-            reporter.rt,
-            shared,
+            self.reporter.rt,
+            self.shared,
             pass,
             outstation,
-            self.line,
-            reporter.clock,
-            server.gate,
+            connection.line,
+            self.reporter.clock,
+            self.gate,
         );
-        self.end_writer();
+        connection.ending.end_writer(connection.stream);
         (PollPass::new(pass, outstation), end)
     }
-
-    /// The writer has ended.
-    fn end_writer(&self) {
-        self.ending.writer();
-        shut(self.stream);
-    }
-}
-
-/// Both workers of a connection, the writer in a thread of its own, until both have ended; why it ended.
-fn exchange<
-    L: Course + Send + Sync,
-    N: LineCourse + Send + Sync,
-    S: Calls<L> + Sync,
-    R: System,
-    C: Clock + Sync,
-    G: Gate + Sync,
->(
-    server: &Server<'_, S, R, C, G>,
-    connection: &Connection<'_, '_, N>,
-    passes: OutstationPasses<L>,
-) -> (OutstationPasses<L>, Cause) {
-    let Passes { reader, writer } = passes;
-    let ((writer, written), (reader, read), is_begun) = beside(
-        server.reporter.rt,
-        move || connection.write(server, writer),
-        // The reader finds the connection shut, and the writer its peer down.
-        || connection.end_writer(),
-        move || connection.read(server, reader),
-    );
-    let written = if is_begun { written } else { WorkerEnd::Memory };
-    let cause = connection.ending.cause(read, written);
-    (Passes { reader, writer }, cause)
-}
-
-/// Keeps a connection to an outstation, until the server ends.
-pub fn serve_outstation<
-    L: Course + Send + Sync,
-    S: Calls<L> + Sync,
-    R: System,
-    C: Clock + Sync,
-    G: Gate + Sync,
->(
-    server: &Server<'_, S, R, C, G>,
-    link: &OutstationLink,
-    passes: OutstationPasses<L>,
-) -> OutstationPasses<L> {
-    let mut passes = passes;
-    let outstation = passes.writer.outstation();
-    for _ in server.reporter.rt.forever() {
-        if server.shared.stopping() {
-            break;
-        }
-        match connect(server.reporter.rt, link) {
-            Ok(stream) => {
-                passes = serve_connection(server, outstation, link, passes, &stream);
-            }
-            Err(cause) => server.reporter.outstation_unreachable(outstation, cause),
-        }
-        pause::<L, S, R>(server.reporter.rt, server.shared);
-    }
-    passes
 }
 
 /// Connects to an outstation: to the first of its addresses that answers.
@@ -163,102 +238,4 @@ fn connect<R: System>(rt: &R, link: &OutstationLink) -> Result<TcpStream, Failur
         }
     }
     Err(last)
-}
-
-/// One connection, from its up step to its end.
-fn serve_connection<
-    L: Course + Send + Sync,
-    S: Calls<L> + Sync,
-    R: System,
-    C: Clock + Sync,
-    G: Gate + Sync,
->(
-    server: &Server<'_, S, R, C, G>,
-    outstation: u8,
-    link: &OutstationLink,
-    passes: OutstationPasses<L>,
-    stream: &TcpStream,
-) -> OutstationPasses<L> {
-    let mut passes = passes;
-    let moment = server.reporter.clock.moment();
-    if !is_made(
-        server,
-        &mut passes.reader,
-        Step::OutstationUp { outstation, moment },
-    ) {
-        shut(stream);
-        return passes;
-    }
-    server.reporter.outstation_connected(outstation);
-    let (passes, met) = serve_stream(server, outstation, link, passes, stream);
-    let cause = if server.shared.stopping() {
-        Cause::GatewayEnds
-    } else {
-        link.in_words(met)
-    };
-    server.reporter.outstation_lost(outstation, cause);
-    passes
-}
-
-/// Serves an outstation on its connection, until that ends; why it ended.
-fn serve_stream<
-    L: Course + Send + Sync,
-    S: Calls<L> + Sync,
-    R: System,
-    C: Clock + Sync,
-    G: Gate + Sync,
->(
-    server: &Server<'_, S, R, C, G>,
-    outstation: u8,
-    link: &OutstationLink,
-    passes: OutstationPasses<L>,
-    stream: &TcpStream,
-) -> (OutstationPasses<L>, Cause) {
-    match open_line() {
-        Some(history) => serve_line::<L, Brand, S, R, C, G>(
-            server, outstation, link, passes, stream, history,
-        ),
-        None => (passes, Cause::Memory),
-    }
-}
-
-/// The same, with a history of its line.
-fn serve_line<
-    L: Course + Send + Sync,
-    N: LineCourse + Send + Sync,
-    S: Calls<L> + Sync,
-    R: System,
-    C: Clock + Sync,
-    G: Gate + Sync,
->(
-    server: &Server<'_, S, R, C, G>,
-    outstation: u8,
-    link: &OutstationLink,
-    passes: OutstationPasses<L>,
-    stream: &TcpStream,
-    history: Opened<Sending>,
-) -> (OutstationPasses<L>, Cause)
-    requires book { history.seen.book ≡ N.book }
-    requires addresses { (N.own ≡ link.now.own) × (N.peer ≡ link.now.peer) }
-    requires first { N.first ≡ None }
-    requires failed { N.failed ≡ false }
-{
-    let ending = Ending::new();
-    let socket = OutstationSocket::new(stream, &ending, link);
-    let line: Line<OutstationSocket<'_>, N> = Line::new(socket, link.own, link.peer, history);
-    let connection = Connection {
-        stream,
-        ending: &ending,
-        outstation,
-        own: link.own,
-        peer: link.peer,
-        patience: Patience {
-            for_clients: link.patience_ms(),
-            for_answers: link.silence_ms(),
-            for_status: link.response_ms(),
-        },
-        socket,
-        line: &line,
-    };
-    exchange(server, &connection, passes)
 }

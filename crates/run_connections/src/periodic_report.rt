@@ -1,23 +1,26 @@
 //! What is told once in a while.
 
+use crate::server::Server;
 use gw_threads::{Calls, Clock, Course, pause};
-use run_peers::Reporter;
 use std::rt::Clock as Sleeps;
 use std::sync::Wait;
 
-/// Looks at what is known of all peers each second, and tells what is due, until the server ends.
-pub fn report_periodically<L: Course, S: Calls<L>, R: Wait + Sleeps, C: Clock>(
-    reporter: &Reporter<'_, R, C>,
-    shared: &S,
-) {
-    for _ in reporter.rt.forever() {
-        pause::<L, S, R>(reporter.rt, shared);
-        if shared.stopping() {
-            return;
+impl<'a, S, R: Wait + Sleeps, C: Clock, G> Server<'a, S, R, C, G> {
+    /// Looks at what is known of all peers each second, and tells what is due, until the server ends.
+    pub fn report_periodically<L: Course>(&self)
+    where
+        S: Calls<L>,
+    {
+        let (reporter, shared) = (self.reporter, self.shared);
+        for _ in reporter.rt.forever() {
+            pause::<L, S, R>(reporter.rt, shared);
+            if shared.stopping() {
+                return;
+            }
+            let wall = reporter.clock.wall();
+            reporter.look_at_outstations(wall);
+            reporter.look_at_callers(wall);
+            reporter.look_at_clients(&shared.figures(reporter.rt).dropped, wall);
         }
-        let wall = reporter.clock.wall();
-        reporter.look_at_outstations(wall);
-        reporter.look_at_callers(wall);
-        reporter.look_at_clients(&shared.figures(reporter.rt).dropped, wall);
     }
 }

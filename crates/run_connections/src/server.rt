@@ -6,7 +6,8 @@ use gw_threads::{Calls, Clock, Course, Gate, Pass, Step, make_call};
 use run_peers::Reporter;
 use std::sync::Wait;
 
-/// What the threads share that make steps on the core.
+/// What the threads share that make steps on the core: the reporter, which is told of connections, the core, and the gate, which
+/// is told of each step.
 #[derive(Drop)]
 pub struct Server<'a, S, R, C, G> {
     pub reporter: &'a Reporter<'a, R, C>,
@@ -14,14 +15,14 @@ pub struct Server<'a, S, R, C, G> {
     pub gate: &'a G,
 }
 
-/// Makes a step on the core; whether it was made.
-pub fn is_made<L: Course, S: Calls<L>, R: Wait, C: Clock, G: Gate>(
-    server: &Server<'_, S, R, C, G>,
-    pass: &mut Pass<L>,
-    step: Step,
-) -> bool
-    requires may { MayMake L.roles pass.old.actor step }
-    ensures { IsTried L.setup pass.old pass.new step result }
-{
-    make_call(server.reporter.rt, server.shared, pass, step, server.gate).is_ok()
+impl<'a, S, R: Wait, C: Clock, G: Gate> Server<'a, S, R, C, G> {
+    /// Makes a step on the core; whether it was made.
+    pub(crate) fn make_step<L: Course>(&self, pass: &mut Pass<L>, step: Step) -> bool
+    where
+        S: Calls<L>,
+        requires may { MayMake L.roles pass.old.actor step }
+        ensures { IsTried L.setup pass.old pass.new step result }
+    {
+        make_call(self.reporter.rt, self.shared, pass, step, self.gate).is_ok()
+    }
 }

@@ -112,12 +112,12 @@ fn arrival(read: io::Result<usize>, room: usize, ending: &Ending) -> Arrival
 {
     match read {
         Ok(0) => {
-            ending.reader();
+            ending.note_reader();
             Arrival::End
         }
         Ok(count) => Arrival::Octets(count),
         Err(error) => {
-            ending.not_read(error.kind());
+            ending.note_not_read(error.kind());
             Arrival::Fault
         }
     }
@@ -165,7 +165,7 @@ fn write(mut stream: &TcpStream, octets: &[u8], ending: &Ending) -> Result<(), U
     match stream.write_all(octets) {
         Ok(()) => Ok(()),
         Err(error) => {
-            ending.not_written(error.kind());
+            ending.note_not_written(error.kind());
             Err(Unwritten)
         }
     }

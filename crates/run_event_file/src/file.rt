@@ -4,7 +4,7 @@ use cmd_programs::FileFailure;
 use run_values::EVENT_COLUMNS;
 use std::fs::{self, File, OpenOptions};
 use std::io::{self, ErrorKind, Write};
-use std::os::unix::fs::FileTypeExt;
+use std::os::unix::fs::{FileExt, FileTypeExt};
 use std::rt::Files;
 
 /// How many files there are at most where what they may have together is bounded.
@@ -61,7 +61,10 @@ impl<'a, S: Files<File = File> + AllocGlobal> EventFile<'a, S> {
                 Standing::File(octets) => octets,
                 Standing::Pipe => 0,
             },
-            is_torn: false,
+            is_torn: match standing {
+                Standing::File(octets) => is_cut(rt, path, octets),
+                Standing::Pipe => false,
+            },
         };
         if !file.is_pipe {
             file.ready()
@@ -112,18 +115,27 @@ impl<'a, S: Files<File = File> + AllocGlobal> EventFile<'a, S> {
             return Ok(());
         }
         let file = if self.is_pipe {
-            opened_pipe(self.rt, self.path)?
+            open_pipe(self.rt, self.path)?
         } else {
-            opened(self.rt, self.path)?
+            open_file(self.rt, self.path)?
         };
         self.file = Some(file);
-        if self.octets == 0 || self.is_pipe {
-            self.write_octets(EVENT_COLUMNS)?;
-        } else if self.is_torn {
+        let written = self.write_front();
+        self.is_torn = written.is_err() && !self.is_pipe;
+        self.is_ready = written.is_ok();
+        written
+    }
+
+    /// Writes what stands in front of lines: the end of one that was cut, and the names of the columns if nothing stands there.
+    fn write_front(&mut self) -> io::Result<()> {
+        let octets = self.octets;
+        if self.is_torn {
             self.write_octets("\n")?;
+            self.octets = octets;
         }
-        self.is_torn = false;
-        self.is_ready = true;
+        if octets == 0 || self.is_pipe {
+            self.write_octets(EVENT_COLUMNS)?;
+        }
         Ok(())
     }
 
@@ -138,6 +150,7 @@ impl<'a, S: Files<File = File> + AllocGlobal> EventFile<'a, S> {
         }
         self.file = None;
         self.is_ready = false;
+        self.is_torn = false;
         for number in (1..FILES - 1).rev() {
             self.rename(number, number + 1)?;
         }
@@ -177,14 +190,25 @@ fn standing_at<S: Files<File = File>>(rt: &S, path: &str) -> Result<Standing, Fi
     }
 }
 
+/// Whether the last line of a file of so many octets has no end; one that can't be read counts as whole.
+fn is_cut<S: Files<File = File>>(rt: &S, path: &str, octets: u64) -> bool {
+    let mut last = [b'\n'];
+    if let Some(before) = octets.checked_sub(1) {
+        if let Ok(file) = OpenOptions::new().read(true).open(rt, path) {
+            let _ = file.read_at(&mut last, before);
+        }
+    }
+    last != [b'\n']
+}
+
 /// A file to which is added, and which is made where it isn't there.
-fn opened<S: Files<File = File>>(rt: &S, path: &str) -> io::Result<File> {
+fn open_file<S: Files<File = File>>(rt: &S, path: &str) -> io::Result<File> {
     OpenOptions::new().append(true).create(true).open(rt, path)
 }
 
 /// A pipe that is written. Whoever only writes a pipe waits for its reader while it is opened, but not whoever reads it too: so
 /// it is opened for both first. Nobody reads one that was deleted.
-fn opened_pipe<S: Files<File = File>>(rt: &S, path: &str) -> io::Result<File> {
+fn open_pipe<S: Files<File = File>>(rt: &S, path: &str) -> io::Result<File> {
     let _both = OpenOptions::new().read(true).write(true).open(rt, path);
     match OpenOptions::new().append(true).open(rt, path) {
         Err(error) if error.kind() == ErrorKind::NotFound => Err(ErrorKind::BrokenPipe.into()),

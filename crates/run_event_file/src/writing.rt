@@ -84,8 +84,7 @@ impl<'a, S: Files<File = File> + AllocGlobal, R: Wait + Sleeps, C: Clock> EventW
     /// Writes what waited longest, or waits for something; whether more may come.
     fn write_next(&mut self) -> bool {
         let rung = self.queue.bell().rung();
-        let mut entries = Vec::new(self.alloc);
-        let Ok(is_end) = self.queue.take(self.system, AT_ONCE, &mut entries) else {
+        let Ok((entries, is_end)) = self.take_next() else {
             self.pause();
             return !self.queue.is_closed(self.system);
         };
@@ -98,6 +97,14 @@ impl<'a, S: Files<File = File> + AllocGlobal, R: Wait + Sleeps, C: Clock> EventW
         }
         self.tell_left_out(TELLING_MS);
         !is_end
+    }
+
+    /// Takes what waited longest; whether nothing waits any more, and nothing will. There is room for all of it, and for a gap
+    /// after it, before anything is taken, so that nothing is lost without memory.
+    fn take_next(&self) -> Result<(Vec<Entry>, bool), AllocError> {
+        let mut entries = Vec::with_capacity(self.alloc, AT_ONCE + 1)?;
+        let is_end = self.queue.take(self.system, AT_ONCE, &mut entries)?;
+        Ok((entries, is_end))
     }
 
     /// Writes events, and what was left out between them.

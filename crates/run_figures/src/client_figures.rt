@@ -29,7 +29,7 @@ pub struct ClientFigures {
     pub refusals: Refusals,
     /// Whether the connection was told of.
     is_told: bool,
-    /// How many observations were dropped by the last look.
+    /// How many observations were dropped when that was noted last.
     dropped: u64,
     /// How many were before the client had the place.
     dropped_before: u64,
@@ -73,7 +73,7 @@ impl ClientFigures {
     }
 
     /// A client has the place since now, which is told at once or isn't.
-    pub fn connected(&mut self, address: SocketAddr, wall: u64, is_told: bool) {
+    pub fn note_connection(&mut self, address: SocketAddr, wall: u64, is_told: bool) {
         self.address = Some(address);
         self.connected_since = Some(wall);
         self.transfers_since = None;
@@ -85,7 +85,7 @@ impl ClientFigures {
     }
 
     /// Its connection ended; whether it was told of.
-    pub fn ended(&mut self, cause: &Cause) -> bool {
+    pub fn note_end(&mut self, cause: &Cause) -> bool {
         self.address = None;
         self.connected_since = None;
         self.transfers_since = None;
@@ -102,7 +102,7 @@ impl ClientFigures {
     }
 
     /// The connection is told of from now on.
-    pub fn told(&mut self) {
+    pub fn note_told(&mut self) {
         self.is_told = true;
     }
 
@@ -122,7 +122,11 @@ impl ClientFigures {
 
     /// An ASDU of an unknown type came. Where the client connects from, and how many came before and weren't told, if that is
     /// told now.
-    pub fn unknown(&mut self, wall: u64, asdu: UnknownAsdu) -> Option<(SocketAddr, UnknownAsdus)> {
+    pub fn note_unknown(
+        &mut self,
+        wall: u64,
+        asdu: UnknownAsdu,
+    ) -> Option<(SocketAddr, UnknownAsdus)> {
         self.last_unknown = Some(asdu);
         self.unknown_told.add(1);
         self.unknown_due(wall)
@@ -170,7 +174,7 @@ impl ClientFigures {
     }
 
     /// Counts why a command was refused.
-    pub fn refused(&mut self, refusal: Refusal) {
+    pub fn note_refusal(&mut self, refusal: Refusal) {
         match refusal {
             Refusal::NoState => add_one(&mut self.refusals.no_state),
             Refusal::Qualifier => add_one(&mut self.refusals.qualifier),
@@ -214,7 +218,7 @@ impl ClientFigures {
 
     /// So many observations were dropped at this place by now. Where that is to be told, how many weren't told yet. It
     /// isn't told of a connection that wasn't.
-    pub fn dropped(&mut self, wall: u64, total: u64) -> Option<u64> {
+    pub fn note_drops(&mut self, wall: u64, total: u64) -> Option<u64> {
         self.dropped_told.add(total.saturating_sub(self.dropped));
         self.dropped = self.dropped.max(total);
         if self.is_told {

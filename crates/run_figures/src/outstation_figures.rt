@@ -185,7 +185,7 @@ impl OutstationFigures {
 
     /// A connection stands since now; whether that is told at once. What the outstation indicated on an earlier one
     /// counts as new again.
-    pub fn connected(&mut self, wall: u64) -> bool {
+    pub fn note_connection(&mut self, wall: u64) -> bool {
         self.end();
         self.connected_since = Some(wall);
         self.settle(wall);
@@ -194,7 +194,7 @@ impl OutstationFigures {
     }
 
     /// The connection is lost, and why; what is told of that at once, if something is.
-    pub fn lost(&mut self, wall: u64, cause: Cause) -> Option<Loss> {
+    pub fn note_loss(&mut self, wall: u64, cause: Cause) -> Option<Loss> {
         self.end();
         self.absence = Absence::Ended(cause);
         self.settle(wall);
@@ -202,9 +202,9 @@ impl OutstationFigures {
     }
 
     /// No connection could be made. Where that is told, how many more weren't told before.
-    pub fn unreached(&mut self, wall: u64, cause: Failure) -> Option<u64> {
+    pub fn note_unreachable(&mut self, wall: u64, cause: Failure) -> Option<u64> {
         self.absence = Absence::Unreached(cause);
-        self.reconnects.unreached(wall, cause)
+        self.reconnects.note_unreachable(wall, cause)
     }
 
     /// No connection stands.
@@ -217,13 +217,19 @@ impl OutstationFigures {
     }
 
     /// A request is sent.
-    pub fn asked(&mut self) {
+    pub fn note_request(&mut self) {
         self.requests = self.requests.saturating_add(1);
     }
 
     /// A fragment that said this was accepted by the step of this number; it ends the answer to a request, or doesn't. Gives
     /// what is new.
-    pub fn answered(&mut self, step: u64, wall: u64, reported: &Reported, ends: bool) -> Noticed {
+    pub fn note_response(
+        &mut self,
+        step: u64,
+        wall: u64,
+        reported: &Reported,
+        ends: bool,
+    ) -> Noticed {
         let now = u16::from_le_bytes(reported.indications);
         let before = self.before;
         let clock_not_set = self.answers_time(now, ends, reported.answers);
@@ -263,7 +269,7 @@ impl OutstationFigures {
     }
 
     /// The last request ended without its answer, by the step of this number.
-    pub fn unanswered(&mut self, step: u64, wall: u64) {
+    pub fn note_timeout(&mut self, step: u64, wall: u64) {
         self.unanswered = self.unanswered.saturating_add(1);
         self.unanswered_told.add(1);
         self.unanswered_by = step;
@@ -312,7 +318,7 @@ impl OutstationFigures {
     }
 
     /// A fragment was refused. Where that may be told now, how many more were refused and not told.
-    pub fn refused(&mut self, wall: u64, fault: Unreadable) -> Option<u64> {
+    pub fn note_unreadable(&mut self, wall: u64, fault: Unreadable) -> Option<u64> {
         self.refused = self.refused.saturating_add(1);
         let told = self.refused_told.ask(wall);
         self.last_refused = match told {
@@ -323,19 +329,19 @@ impl OutstationFigures {
     }
 
     /// The link skipped octets.
-    pub fn skipped(&mut self, octets: u64) {
+    pub fn note_skipped(&mut self, octets: u64) {
         self.skipped = self.skipped.saturating_add(octets);
         self.skipped_told.add(octets);
     }
 
     /// A frame came that the outstation doesn't send to its master.
-    pub fn strayed(&mut self, frame: StrayFrame) {
+    pub fn note_stray(&mut self, frame: StrayFrame) {
         self.last_stray = Some(frame);
         self.stray_told.add(1);
     }
 
     /// Objects came of kinds that aren't taken.
-    pub fn passed_over(&mut self, objects: u64) {
+    pub fn note_passed_over(&mut self, objects: u64) {
         self.passed_over = self.passed_over.saturating_add(objects);
         self.passed_over_told.add(objects);
     }

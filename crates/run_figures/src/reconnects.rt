@@ -131,7 +131,7 @@ impl Reconnects {
     }
 
     /// No connection could be made. Where that is told, how many more weren't told before.
-    pub fn unreached(&mut self, now: u64, cause: Failure) -> Option<u64> {
+    pub fn note_unreachable(&mut self, now: u64, cause: Failure) -> Option<u64> {
         if !self.is_unreached_anew(now, cause) {
             return None;
         }

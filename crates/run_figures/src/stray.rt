@@ -107,7 +107,8 @@ fn write_to_outstation<W: fmt::Write>(
     } = way;
     write!(
         f,
-        "a frame from link address {source} to {destination} came in the direction of an outstation (DIR 1){more}; the peer is a master, or sends back what it gets"
+        "a frame from link address {source} to {destination} came in the direction of an outstation (DIR 1){more}; \
+         the peer is a master, or sends back what it gets"
     )
 }
 

@@ -23,7 +23,8 @@ pub enum AwaitedNote {
 }
 
 /// Notes on their way to standard error. Whoever tells something doesn't wait for it to be written: at most 1,024 notes
-/// wait, and of more the newest are left out and counted. How many is told before the next note that finds room.
+/// wait, or 4,096 if the next one tells of a control, and of more the newest are left out and counted. How many is told before
+/// the next note that finds room.
 #[derive(Drop)]
 pub struct Journal {
     waiting: Mutex<WaitingNotes>,

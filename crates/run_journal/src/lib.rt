@@ -16,11 +16,9 @@ pub use control_event::{CommandEvent, OrderEvent};
 pub use doubt::Doubt;
 pub use event::{JournalEvent, Priority};
 pub use journal::{AwaitedNote, Journal};
-pub use note_line::{Note, NoteLine};
 pub use reason::Reason;
 pub use run_figures::{
-    Absence, Cause, ClientFigures, DueNotes, Failure, LineBudget, Loss, Noticed, OutstationFigures,
-    Reconnects, Refused, StrayFrame, StrayFrames, Throttle, UnknownAsdus, Unreadable, Way,
+    Cause, ClientFigures, DueNotes, Failure, LineBudget, Loss, Noticed, OutstationFigures,
+    Reconnects, Refused, StrayFrame, Throttle, UnknownAsdus, Unreadable, Way,
 };
-pub use waiting::{MOST, MOST_OF_CONTROLS, Next, WaitingNotes};
 pub use write_trouble::WriteTrouble;

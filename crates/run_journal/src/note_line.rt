@@ -194,6 +194,9 @@ impl<'a> Happened<'a> {
     }
 }
 
+/// What became of objects of a kind that isn't one of points.
+const PASSED_OVER: &str = "passed over, of kinds that aren't taken";
+
 /// What happened to an outstation, in words.
 #[derive(Clone, Copy)]
 struct OutstationWords<'a>(&'a JournalEvent);
@@ -227,12 +230,7 @@ impl<'a> fmt::Display for OutstationWords<'a> {
             }
             JournalEvent::FramesStrayed { frames, .. } => return fmt::Display::fmt(frames, f),
             JournalEvent::ObjectsPassedOver { count, .. } => {
-                return write_counted(
-                    f,
-                    *count,
-                    "object",
-                    "passed over, of kinds that aren't taken",
-                );
+                return write_counted(f, *count, "object", PASSED_OVER);
             }
             JournalEvent::Order { order, what, .. } => return write_order(f, *order, what),
             _ => "",

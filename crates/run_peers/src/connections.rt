@@ -14,7 +14,7 @@ impl<'a, R: Wait, C: Clock> Reporter<'a, R, C> {
             return;
         };
         let wall = self.clock.wall();
-        let told = record.figures.lock(self.rt).unreached(wall, cause);
+        let told = record.figures.lock(self.rt).note_unreachable(wall, cause);
         if let Some(left_out) = told {
             self.tell(JournalEvent::OutstationUnreachable {
                 outstation,
@@ -30,7 +30,7 @@ impl<'a, R: Wait, C: Clock> Reporter<'a, R, C> {
             return;
         };
         let wall = self.clock.wall();
-        let is_told = record.figures.lock(self.rt).connected(wall);
+        let is_told = record.figures.lock(self.rt).note_connection(wall);
         if is_told {
             self.tell(JournalEvent::OutstationConnected { outstation });
         }
@@ -42,7 +42,7 @@ impl<'a, R: Wait, C: Clock> Reporter<'a, R, C> {
             return;
         };
         let wall = self.clock.wall();
-        let told = record.figures.lock(self.rt).lost(wall, cause);
+        let told = record.figures.lock(self.rt).note_loss(wall, cause);
         if let Some(loss) = told {
             self.tell(JournalEvent::OutstationLost { outstation, loss });
         }
@@ -58,7 +58,7 @@ impl<'a, R: Wait, C: Clock> Reporter<'a, R, C> {
         record
             .figures
             .lock(self.rt)
-            .connected(address, wall, is_told);
+            .note_connection(address, wall, is_told);
         if is_told {
             self.tell(JournalEvent::ClientConnected { client, address });
         }
@@ -74,13 +74,13 @@ impl<'a, R: Wait, C: Clock> Reporter<'a, R, C> {
             self.tell_dropped(record, client, *total, ANY_TIME);
         }
         let wall = self.clock.wall();
-        let was_told = record.figures.lock(self.rt).ended(&cause);
+        let was_told = record.figures.lock(self.rt).note_end(&cause);
         record.free(self.rt);
         self.tell_end(client, address, cause, wall, was_told);
     }
 
     /// Nobody has the slot of a client any more, who wasn't told as connected.
-    pub fn free_slot(&self, client: u8) {
+    pub fn forget_client(&self, client: u8) {
         if let Some(record) = self.peers.client(client) {
             record.free(self.rt);
         }

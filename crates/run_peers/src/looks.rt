@@ -102,7 +102,7 @@ impl<'a, R: Wait, C: Clock> Reporter<'a, R, C> {
         if !callers.stands(wall, address, since) {
             return;
         }
-        figures.told();
+        figures.note_told();
         self.tell(JournalEvent::ClientConnected { client, address });
         if figures.transfers_since.is_some() {
             self.tell(JournalEvent::TransferStarted { client, address });
@@ -122,7 +122,7 @@ impl<'a, R: Wait, C: Clock> Reporter<'a, R, C> {
 
     /// Tells how many observations were dropped for a client, where that is due. So many were dropped at its slot by now.
     pub(crate) fn tell_dropped(&self, record: &ClientRecord, client: u8, total: u64, wall: u64) {
-        if let Some((address, count)) = record.dropped(self.rt, wall, total) {
+        if let Some((address, count)) = record.note_drops(self.rt, wall, total) {
             self.tell(JournalEvent::NewsDropped {
                 client,
                 address,

@@ -46,17 +46,17 @@ impl OutstationRecord {
         }
     }
 
-    /// The fragment was taken.
-    pub fn takes_reports<R: Wait>(&self, rt: &R) {
+    /// The fragment was taken, by the step of this number.
+    pub fn takes_reports<R: Wait>(&self, rt: &R, step: u64) {
         if let Some(points) = &self.points {
-            points.lock(rt).take();
+            points.lock(rt).take(step);
         }
     }
 
-    /// The core counts it as lost.
-    pub fn loses_points<R: Wait>(&self, rt: &R) {
+    /// The core counts it as lost, by the step of this number.
+    pub fn loses_points<R: Wait>(&self, rt: &R, step: u64) {
         if let Some(points) = &self.points {
-            points.lock(rt).lose();
+            points.lock(rt).lose(step);
         }
     }
 
@@ -74,9 +74,9 @@ impl OutstationRecord {
 
     /// A frame of the link came on its connection, with this CONTROL octet. It is noted where the outstation doesn't send
     /// such a frame to its master.
-    pub fn received<R: Wait>(&self, rt: &R, control: u8, way: Way) {
+    pub fn note_frame<R: Wait>(&self, rt: &R, control: u8, way: Way) {
         if let Some(frame) = StrayFrame::of(control, way, self.way) {
-            self.figures.lock(rt).strayed(frame);
+            self.figures.lock(rt).note_stray(frame);
         }
     }
 
@@ -118,7 +118,7 @@ impl ClientRecord {
     }
 
     /// A tick closed the client's connection, since t1 had expired.
-    pub fn expires<R: Wait>(&self, rt: &R) {
+    pub fn note_expiry<R: Wait>(&self, rt: &R) {
         self.connection.lock(rt).expire();
     }
 
@@ -168,10 +168,10 @@ impl ClientRecord {
 
     /// So many observations were dropped at this slot by now. Where that is to be told, where its client connects
     /// from, and how many weren't told yet.
-    pub fn dropped<R: Wait>(&self, rt: &R, wall: u64, total: u64) -> Option<(SocketAddr, u64)> {
+    pub fn note_drops<R: Wait>(&self, rt: &R, wall: u64, total: u64) -> Option<(SocketAddr, u64)> {
         let mut figures = self.figures.lock(rt);
         let address = figures.address?;
-        let count = figures.dropped(wall, total)?;
+        let count = figures.note_drops(wall, total)?;
         Some((address, count))
     }
 

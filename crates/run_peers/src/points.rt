@@ -93,6 +93,8 @@ pub struct Points {
     values: LastValues,
     /// What a fragment says of which the step isn't made yet.
     pending: Vec<Telling>,
+    /// The number of the step by which the outstation was lost last.
+    lost_by: u64,
 }
 
 impl Points {
@@ -113,6 +115,7 @@ impl Points {
         Ok(Points {
             values,
             pending: Vec::new(alloc),
+            lost_by: 0,
         })
     }
 
@@ -128,16 +131,22 @@ impl Points {
         }
     }
 
-    /// The fragment was taken.
-    pub fn take(&mut self) {
+    /// The fragment was taken, by the step of this number. If a later one by which the outstation was lost was told before, none
+    /// of its values is topical.
+    pub fn take(&mut self, step: u64) {
+        let is_lost = step < self.lost_by;
         for telling in &self.pending {
-            self.values.show(*telling);
+            self.values.show(Telling {
+                is_topical: telling.is_topical && !is_lost,
+                ..*telling
+            });
         }
         self.pending.clear();
     }
 
-    /// The outstation is lost: none of its values is topical.
-    pub fn lose(&mut self) {
+    /// The outstation is lost, by the step of this number: none of its values is topical.
+    pub fn lose(&mut self, step: u64) {
+        self.lost_by = self.lost_by.max(step);
         self.values.losses = self.values.losses.saturating_add(1);
         self.values.topical = 0;
     }

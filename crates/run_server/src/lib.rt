@@ -7,7 +7,6 @@ mod serving;
 mod thread_role;
 
 pub use options::Options;
-pub use run_admission::Network;
 pub use run_clock::{Clock, SystemClock};
 pub use run_connections::{
     Closed, Effects, Gate, Observer, OpenGate, Place, Pumps, Reply, Step, StepFault, StepKind,

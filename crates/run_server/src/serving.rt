@@ -6,7 +6,7 @@ ghost use Rattle.run_shared.specs.Reached.{IsFirst};
 ghost use Rattle.run_server.specs.Roles.{actors_of, roles_of, AreFirst};
 
 use crate::options::Options;
-use crate::thread_role::{ReturnedPasses, ThreadRole, add_roles};
+use crate::thread_role::{ReturnedPasses, Serving, ThreadRole, add_roles};
 use gw_hub::Hub;
 use gw_map::Settings;
 use gw_model::{CLIENTS, Memory};
@@ -224,14 +224,15 @@ fn serve_with<
 
 /// Serves with these passes, which come back and are counted together.
 fn serve_in<
+    'a,
     L: Course + Send + Sync,
     M: Machine + Send + Sync,
     R: System,
     C: Clock + Sync,
     G: Gate + Sync,
 >(
-    server: &Server<'_, Shared<L, M>, R, C, G>,
-    source: &StatusSource<'_>,
+    server: &'a Server<'a, Shared<L, M>, R, C, G>,
+    source: &'a StatusSource<'a>,
     outstations: u8,
     passes: Vec<Pass<L>>,
 ) -> Result<Closed, Memory>
@@ -243,103 +244,101 @@ fn serve_in<
     let mut passes = passes;
     let mut roles = Vec::new(server.reporter.alloc);
     add_roles(&mut roles, &mut passes, outstations, source)?;
-    perform_all(server, source, &mut roles, &mut passes)?;
+    let slots = Slots::new(server.reporter.alloc, CLIENTS)?;
+    let serving = Serving {
+        server,
+        slots: &slots,
+        source,
+    };
+    serving.perform_all(&mut roles, &mut passes)?;
     match close(server.shared, server.reporter.rt, passes) {
         Ok(closed) => Ok(closed),
         Err(_) => Err(Memory),
     }
 }
 
-/// Runs a thread for each role, the last one first, while clients are accepted; the passes come back.
-fn perform_all<
-    L: Course + Send + Sync,
-    S: Calls<L> + Sync,
-    R: System,
-    C: Clock + Sync,
-    G: Gate + Sync,
->(
-    server: &Server<'_, S, R, C, G>,
-    source: &StatusSource<'_>,
-    roles: &mut Vec<ThreadRole<L>>,
-    passes: &mut Vec<Pass<L>>,
-) -> Result<(), Memory> {
-    let slots = Slots::new(server.reporter.alloc, CLIENTS)?;
-    let mut threads = Vec::with_capacity(server.reporter.alloc, roles.len())?;
-    let is_complete = thread::scope(
-        thread::scope_env(),
-        server.reporter.rt,
-        |scope| -> bool
-            requires { IsSend L.row × IsSync L.row × IsSync S.row × IsSync R.row × IsSync C.row × IsSync G.row }
-        {
-            let is_complete = start_all(scope, server, &slots, source, roles, &mut threads);
-            if is_complete {
-                accept(server.reporter, &slots, &source.acceptor);
-            } else {
-                server.shared.stop();
-                server.reporter.journal.close(server.reporter.rt);
-            }
-            end_all(server, &slots, source, &mut threads, passes);
-            is_complete
-        },
-    );
-    if is_complete { Ok(()) } else { Err(Memory) }
-}
+impl<'a, 'b, S: Sync, R: System, C: Clock + Sync, G: Gate + Sync> Serving<'a, 'b, S, R, C, G> {
+    /// Runs a thread for each role, the last one first, while clients are accepted; the passes come back.
+    fn perform_all<L: Course + Send + Sync>(
+        &self,
+        roles: &mut Vec<ThreadRole<L>>,
+        passes: &mut Vec<Pass<L>>,
+    ) -> Result<(), Memory>
+    where
+        S: Calls<L>,
+    {
+        let reporter = self.server.reporter;
+        let mut threads = Vec::with_capacity(reporter.alloc, roles.len())?;
+        let is_complete = thread::scope(
+            thread::scope_env(),
+            reporter.rt,
+            |scope| -> bool
+                requires { IsSend L.row × IsSync L.row × IsSync S.row × IsSync R.row × IsSync C.row × IsSync G.row }
+            {
+                let is_complete = self.start_all(scope, roles, &mut threads);
+                if is_complete {
+                    accept(reporter, self.slots, &self.source.acceptor);
+                } else {
+                    self.server.shared.stop();
+                    reporter.journal.close(reporter.rt);
+                }
+                self.end_all(&mut threads, passes);
+                is_complete
+            },
+        );
+        if is_complete { Ok(()) } else { Err(Memory) }
+    }
 
-/// Starts a thread for each role, the last one first, until one can't be; whether all were.
-fn start_all<
-    's,
-    E,
-    L: Course + Send + Sync + 's,
-    S: Calls<L> + Sync,
-    R: System,
-    C: Clock + Sync,
-    G: Gate + Sync,
->(
-    scope: &Scope<'s, E>,
-    server: &'s Server<'_, S, R, C, G>,
-    slots: &'s Slots,
-    source: &'s StatusSource<'_>,
-    roles: &mut Vec<ThreadRole<L>>,
-    threads: &mut Vec<JoinHandle<ReturnedPasses<L>>>,
-) -> bool {
-    for _ in 0..roles.len() {
-        let Some(role) = roles.pop() else {
-            break;
-        };
-        match scope.spawn(move || role.perform(server, slots, source)) {
-            Ok(thread) => {
-                let _ = threads.push(thread);
+    /// Starts a thread for each role, the last one first, until one can't be; whether all were.
+    fn start_all<'s, E, L: Course + Send + Sync + 's>(
+        &'s self,
+        scope: &Scope<'s, E>,
+        roles: &mut Vec<ThreadRole<L>>,
+        threads: &mut Vec<JoinHandle<ReturnedPasses<L>>>,
+    ) -> bool
+    where
+        S: Calls<L>,
+    {
+        for _ in 0..roles.len() {
+            let Some(role) = roles.pop() else {
+                break;
+            };
+            match scope.spawn(move || self.perform(role)) {
+                Ok(thread) => {
+                    let _ = threads.push(thread);
+                }
+                Err(_) => return false,
             }
-            Err(_) => return false,
         }
+        true
     }
-    true
-}
 
-/// Lets the threads end once no further client is accepted: those of the slots, then the others, and behind what still
-/// waited to be told the journal's. The passes come back. The thread that reads standard input was started last, behind
-/// those of the slots, and the journal's first.
-fn end_all<L: Course, S: Calls<L>, R: System, C: Clock, G>(
-    server: &Server<'_, S, R, C, G>,
-    slots: &Slots,
-    source: &StatusSource<'_>,
-    threads: &mut Vec<JoinHandle<ReturnedPasses<L>>>,
-    passes: &mut Vec<Pass<L>>,
-) {
-    let (reporter, shared) = (server.reporter, server.shared);
-    slots.close(reporter.rt);
-    if source.acceptor.until_eof.is_some() {
-        join_last(reporter.rt, threads, 1, passes);
+    /// Lets the threads end once no further client is accepted: those of the slots, then the others, and behind what still
+    /// waited to be told the journal's. The passes come back. The thread that reads standard input was started last, behind
+    /// those of the slots, and the journal's first.
+    fn end_all<L: Course>(
+        &self,
+        threads: &mut Vec<JoinHandle<ReturnedPasses<L>>>,
+        passes: &mut Vec<Pass<L>>,
+    )
+    where
+        S: Calls<L>,
+    {
+        let (reporter, shared) = (self.server.reporter, self.server.shared);
+        self.slots.close(reporter.rt);
+        if self.source.acceptor.until_eof.is_some() {
+            join_last(reporter.rt, threads, 1, passes);
+            shared.stop();
+            reporter.peers.dismiss_all(reporter.rt);
+            self.slots.shut_all(reporter.rt);
+        }
+        join_last(reporter.rt, threads, usize::from(CLIENTS), passes);
         shared.stop();
-        reporter.peers.dismiss_all(reporter.rt);
-        slots.shut_all(reporter.rt);
+        let others = threads.len().saturating_sub(1);
+        join_last(reporter.rt, threads, others, passes);
+        reporter.close();
+        join_last(reporter.rt, threads, 1, passes);
     }
-    join_last(reporter.rt, threads, usize::from(CLIENTS), passes);
-    shared.stop();
-    let others = threads.len().saturating_sub(1);
-    join_last(reporter.rt, threads, others, passes);
-    reporter.close();
-    join_last(reporter.rt, threads, 1, passes);
 }
 
 /// Waits for the ends of those threads that were started last, so many of them; their passes come back.

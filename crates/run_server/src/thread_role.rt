@@ -7,7 +7,7 @@ use run_admission::{Slots, await_end};
 use run_clock::Clock;
 use run_connections::{
     Calls, ClientPasses, Course, Gate, OutstationPasses, Pass, Passes, PollPass, PumpPass, Server,
-    System, clock, report_periodically, serve_outstation, serve_slot,
+    System, clock,
 };
 use run_watch::{StatusSource, follow, serve_status};
 
@@ -43,23 +43,28 @@ pub enum ReturnedPasses<L: Course> {
     Both { reader: Pass<L>, writer: Pass<L> },
 }
 
-impl<L: Course + Send + Sync> ThreadRole<L> {
-    /// Does it.
-    pub fn perform<S: Calls<L> + Sync, R: System, C: Clock + Sync, G: Gate + Sync>(
-        self,
-        server: &Server<'_, S, R, C, G>,
-        slots: &Slots,
-        source: &StatusSource<'_>,
-    ) -> ReturnedPasses<L> {
+/// What all threads of a server share.
+#[derive(Drop)]
+pub struct Serving<'a, 'b, S, R, C, G> {
+    pub server: &'a Server<'a, S, R, C, G>,
+    pub slots: &'b Slots,
+    pub source: &'a StatusSource<'a>,
+}
+
+impl<'a, 'b, S: Sync, R: System, C: Clock + Sync, G: Gate + Sync> Serving<'a, 'b, S, R, C, G> {
+    /// Does what a thread has to do.
+    pub fn perform<L: Course + Send + Sync>(&self, role: ThreadRole<L>) -> ReturnedPasses<L>
+    where
+        S: Calls<L>,
+    {
+        let (server, source) = (self.server, self.source);
         let reporter = server.reporter;
-        match self {
+        match role {
             ThreadRole::Journal => reporter.journal.write_on(reporter.rt),
-            ThreadRole::PeriodicReport => {
-                report_periodically::<L, S, R, C>(reporter, server.shared);
-            }
+            ThreadRole::PeriodicReport => server.report_periodically::<L>(),
             ThreadRole::Status => serve_status::<L, S, R, C>(reporter, server.shared, source),
             ThreadRole::Follower => follow::<L, S, R, C>(reporter, server.shared, source),
-            ThreadRole::Input => await_end(reporter.rt, slots, &source.acceptor),
+            ThreadRole::Input => await_end(reporter.rt, self.slots, &source.acceptor),
             ThreadRole::Clock(pass) => {
                 let (pass, _) = clock(
                     reporter.rt,
@@ -73,14 +78,14 @@ impl<L: Course + Send + Sync> ThreadRole<L> {
             ThreadRole::Outstation(passes) => {
                 let link = source.links.get(usize::from(passes.writer.outstation()));
                 let Passes { reader, writer } = match link {
-                    Some(link) => serve_outstation(server, link, passes),
+                    Some(link) => server.serve_outstation(link, passes),
                     None => passes,
                 };
                 let (writer, _) = writer.into_parts();
                 return ReturnedPasses::Both { reader, writer };
             }
             ThreadRole::Slot(passes) => {
-                let Passes { reader, writer } = serve_slot(server, slots, passes);
+                let Passes { reader, writer } = server.serve_slot(self.slots, passes);
                 let (writer, _) = writer.into_parts();
                 return ReturnedPasses::Both { reader, writer };
             }

@@ -14,7 +14,7 @@ mod unserved;
 pub use entrances::Entrances;
 pub use files_of_record::{folder_files, record_files};
 pub use obstacle::Obstacle;
-pub use run_folder::{FolderPieces, PieceFiles};
+pub use run_folder::PieceFiles;
 pub use source::{Source, check_followers, check_records, read_source};
 pub use starting::{is_journal, tell_start};
 pub use system::Environment;

@@ -26,7 +26,7 @@ pub fn tell_start<W: Wait>(
     journal.tell(
         system,
         wall,
-        started(alloc, settings, source, shows_values)?,
+        starting_event(alloc, settings, source, shows_values)?,
     );
     tell_doubts(alloc, system, journal, wall, settings)
 }
@@ -42,7 +42,7 @@ pub(crate) fn front_of<S: Environment>(rt: &S) -> &'static str {
 }
 
 /// That the gateway starts, with the settings of a file.
-fn started(
+fn starting_event(
     alloc: Global,
     settings: &Settings,
     source: Source<'_>,

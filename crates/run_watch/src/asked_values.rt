@@ -12,15 +12,21 @@ use std::sync::Wait;
 
 /// What is asked of the values of points.
 #[derive(Clone, Copy)]
-struct AskedValues {
+pub(crate) struct AskedValues {
     resource: Resource,
     choice: Choice,
     range: Range,
 }
 
 impl AskedValues {
-    /// What a resource and a query ask for; nothing where it isn't one of values.
-    fn of(resource: Resource, query: &Query) -> Option<Result<AskedValues, RequestFault>> {
+    /// What a request asks for; nothing if it isn't for values.
+    pub(crate) fn of(
+        request: &HttpRequest,
+        query: &Query,
+    ) -> Option<Result<AskedValues, RequestFault>> {
+        let Ok(resource) = request.asked else {
+            return None;
+        };
         match resource {
             Resource::Points => Some(AskedValues::of_page(query)),
             Resource::PointsCsv => Some(AskedValues::of_list(resource, Form::Csv, query)),
@@ -61,33 +67,17 @@ impl AskedValues {
     }
 }
 
-/// Whether a request is for values that are shown.
-pub(crate) fn is_of_values(request: &HttpRequest, source: &StatusSource<'_>) -> bool {
-    match request.asked {
-        Ok(Resource::Points | Resource::PointsCsv | Resource::PointsJson) => {
-            source.values.is_some()
-        }
-        _ => false,
-    }
-}
-
 /// The answer to a request for values.
 pub(crate) fn answer_values<R: Wait, C: Clock>(
     reporter: &Reporter<'_, R, C>,
     source: &StatusSource<'_>,
-    request: &HttpRequest,
-    query: &Query,
+    values: &Values<'_>,
+    asked: Result<AskedValues, RequestFault>,
+    is_head: bool,
 ) -> Result<String, Memory> {
-    let asked = match request.asked {
-        Ok(resource) => AskedValues::of(resource, query),
-        Err(refusal) => return refuse(reporter.alloc, refusal, request.is_head),
-    };
-    match (source.values, asked) {
-        (Some(values), Some(Ok(asked))) => {
-            answer_with(reporter, source, values, asked, request.is_head)
-        }
-        (Some(_), Some(Err(refusal))) => refuse(reporter.alloc, refusal, request.is_head),
-        _ => refuse(reporter.alloc, RequestFault::NotFound, request.is_head),
+    match asked {
+        Ok(asked) => answer_with(reporter, source, values, asked, is_head),
+        Err(refusal) => refuse(reporter.alloc, refusal, is_head),
     }
 }
 

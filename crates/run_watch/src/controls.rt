@@ -53,7 +53,7 @@ pub fn note_refusal<R: Wait, C: Clock>(
     if let Some(order) = order_accepted(effects) {
         record.reasons.lock(reporter.rt).accept(order);
     } else if let Some(refusal) = judged.refusal {
-        record.figures.lock(reporter.rt).refused(refusal);
+        record.figures.lock(reporter.rt).note_refusal(refusal);
         let (mut reasons, reason) = (record.reasons.lock(reporter.rt), Reason::Refused(refusal));
         reasons.refuse(step, &judged.command, reason);
     }

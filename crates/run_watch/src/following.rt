@@ -64,13 +64,9 @@ impl Follower {
         let mut passed: u64 = 0;
         for _ in 0..MOST_PIECES {
             let piece = shared.copy_news(reporter.rt, self.next, &mut self.room);
-            passed = passed.saturating_add(piece.first.saturating_sub(self.next));
-            self.pass_over(
-                reporter,
-                source,
-                wall,
-                piece.first.saturating_sub(self.next),
-            );
+            let skipped = piece.first.saturating_sub(self.next);
+            passed = passed.saturating_add(skipped);
+            self.pass_over(reporter, source, wall, skipped);
             self.next = piece.first.saturating_add(piece.count as u64);
             self.take(reporter, source, wall, piece.count);
             if piece.count < PIECE {
@@ -132,7 +128,7 @@ impl Follower {
             return;
         };
         let mut position: usize = 0;
-        for _ in 0..MOST_PIECES {
+        for _ in 0..values.points().count() / PIECE + 1 {
             let count = shared.copy_picture(reporter.rt, position, &mut self.room);
             values.show(reporter.rt, position, &self.room[..count.min(PIECE)]);
             position = position.saturating_add(count);

@@ -1,8 +1,9 @@
 //! The status, served on an address of its own.
 ghost use Rattle.std.specs.Prelude.{None};
 
-use crate::asked_values::{answer_values, is_of_values, refuse_values};
+use crate::asked_values::{AskedValues, answer_values, refuse_values};
 use crate::status_source::StatusSource;
+use crate::values::Values;
 use gw_model::Memory;
 use gw_threads::{Calls, Clock, Course, Figures, OrderCounts, pause};
 use run_admission::look_up_from_accept;
@@ -14,7 +15,7 @@ use run_status::{
 };
 use std::alloc::Global;
 use std::io::{self, ErrorKind, Read, Write};
-use std::net::TcpStream;
+use std::net::{TcpListener, TcpStream};
 use std::rt::Clock as Sleeps;
 use std::sync::Wait;
 use std::time::Duration;
@@ -130,16 +131,32 @@ pub fn serve_status<L: Course, S: Calls<L>, R: Wait + Sleeps, C: Clock>(
     let Some(listener) = source.status else {
         return;
     };
-    look_up_from_accept(listener);
+    let mut looks_up = false;
     for _ in reporter.rt.forever() {
         if shared.stopping() {
             return;
         }
-        match listener.accept() {
-            Ok((stream, _)) => serve_request::<L, S, R, C>(reporter, shared, source, &stream),
-            Err(error) if error.kind() == ErrorKind::WouldBlock => {}
-            Err(_) => pause::<L, S, R>(reporter.rt, shared),
+        // It may not wait where it can't come back.
+        looks_up = looks_up || look_up_from_accept(listener);
+        if looks_up {
+            serve_next::<L, S, R, C>(reporter, shared, source, listener);
+        } else {
+            pause::<L, S, R>(reporter.rt, shared);
         }
+    }
+}
+
+/// Answers the next request, if one comes in time.
+fn serve_next<L: Course, S: Calls<L>, R: Wait + Sleeps, C: Clock>(
+    reporter: &Reporter<'_, R, C>,
+    shared: &S,
+    source: &StatusSource<'_>,
+    listener: &TcpListener,
+) {
+    match listener.accept() {
+        Ok((stream, _)) => serve_request::<L, S, R, C>(reporter, shared, source, &stream),
+        Err(error) if error.kind() == ErrorKind::WouldBlock => {}
+        Err(_) => pause::<L, S, R>(reporter.rt, shared),
     }
 }
 
@@ -154,10 +171,15 @@ fn serve_request<L: Course, S: Calls<L>, R: Wait, C: Clock>(
     let _ = stream.set_write_timeout(Some(Duration::from_millis(LOOK_MS)));
     let mut query = Query::none();
     if let Some(request) = receive(&mut Punctual::giving(stream, reporter.clock), &mut query) {
-        if is_of_values(&request, source) {
-            serve_values(reporter, source, stream, &request, &query);
-        } else if let Ok(text) = answer_to::<L, S, R, C>(reporter, shared, source, request) {
-            send(stream, reporter.clock, LONGEST_MS, text.as_str());
+        match (source.values, AskedValues::of(&request, &query)) {
+            (Some(values), Some(asked)) => {
+                serve_values(reporter, source, stream, values, asked, request.is_head);
+            }
+            _ => {
+                if let Ok(text) = answer_to::<L, S, R, C>(reporter, shared, source, request) {
+                    send(stream, reporter.clock, LONGEST_MS, text.as_str());
+                }
+            }
         }
     }
     shut(stream);
@@ -169,19 +191,17 @@ fn serve_values<R: Wait, C: Clock>(
     reporter: &Reporter<'_, R, C>,
     source: &StatusSource<'_>,
     stream: &TcpStream,
-    request: &HttpRequest,
-    query: &Query,
+    values: &Values<'_>,
+    asked: Result<AskedValues, RequestFault>,
+    is_head: bool,
 ) {
-    let Some(values) = source.values else {
-        return;
-    };
     if !values.begin_asking() {
-        if let Ok(text) = refuse_values(reporter.alloc, request.is_head) {
+        if let Ok(text) = refuse_values(reporter.alloc, is_head) {
             send(stream, reporter.clock, LONGEST_MS, text.as_str());
         }
         return;
     }
-    if let Ok(text) = answer_values(reporter, source, request, query) {
+    if let Ok(text) = answer_values(reporter, source, values, asked, is_head) {
         send(stream, reporter.clock, LONGEST_VALUES_MS, text.as_str());
     }
     values.end_asking();

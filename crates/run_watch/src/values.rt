@@ -123,7 +123,7 @@ impl<'a> Values<'a> {
     ) -> Result<(), AllocError> {
         let mut room = [PointValue::NONE; PIECE];
         let (mut from, mut left) = (range.from, range.most);
-        for _ in 0..MOST_PIECES {
+        for _ in 0..self.points.count() / PIECE + 1 {
             let wanted = left.min(PIECE);
             let count = self.copy(rt, from, &mut room[..wanted]);
             if count == 0 {

@@ -26,7 +26,7 @@ pub struct Watched<'a, R, C, G> {
 
 /// A fragment of an outstation that said this was accepted by the step of this number, and ends the answer to a request or
 /// doesn't.
-fn answered<R: Wait, C: Clock>(
+fn note_response<R: Wait, C: Clock>(
     reporter: &Reporter<'_, R, C>,
     step: u64,
     outstation: u8,
@@ -40,46 +40,46 @@ fn answered<R: Wait, C: Clock>(
     let noticed = record
         .figures
         .lock(reporter.rt)
-        .answered(step, wall, reported, ends);
-    record.takes_reports(reporter.rt);
+        .note_response(step, wall, reported, ends);
+    record.takes_reports(reporter.rt, step);
     reporter.tell_noticed(outstation, noticed);
 }
 
 /// A request goes to an outstation.
-fn asked<R: Wait, C: Clock>(reporter: &Reporter<'_, R, C>, outstation: u8) {
+fn note_request<R: Wait, C: Clock>(reporter: &Reporter<'_, R, C>, outstation: u8) {
     if let Some(record) = reporter.peers.outstation(outstation) {
-        record.figures.lock(reporter.rt).asked();
+        record.figures.lock(reporter.rt).note_request();
     }
 }
 
 /// The request to an outstation wasn't answered in time, as the step of this number found.
-fn unanswered<R: Wait, C: Clock>(reporter: &Reporter<'_, R, C>, step: u64, outstation: usize) {
+fn note_timeout<R: Wait, C: Clock>(reporter: &Reporter<'_, R, C>, step: u64, outstation: usize) {
     if let Some(record) = reporter.peers.outstations().get(outstation) {
         let wall = reporter.clock.wall();
-        record.figures.lock(reporter.rt).unanswered(step, wall);
+        record.figures.lock(reporter.rt).note_timeout(step, wall);
     }
 }
 
 /// A tick closed the connections of the clients whose bit is set, since t1 had expired.
-fn expired<R: Wait, C: Clock>(reporter: &Reporter<'_, R, C>, closed: u8) {
+fn note_expiry<R: Wait, C: Clock>(reporter: &Reporter<'_, R, C>, closed: u8) {
     let mut left = closed;
     for record in reporter.peers.clients() {
         if left % 2 == 1 {
-            record.expires(reporter.rt);
+            record.note_expiry(reporter.rt);
         }
         left /= 2;
     }
 }
 
-/// The core counts an outstation as lost.
-fn lost<R: Wait, C: Clock>(reporter: &Reporter<'_, R, C>, outstation: u8) {
+/// The core counts an outstation as lost, by the step of this number.
+fn note_points_lost<R: Wait, C: Clock>(reporter: &Reporter<'_, R, C>, step: u64, outstation: u8) {
     if let Some(record) = reporter.peers.outstation(outstation) {
-        record.loses_points(reporter.rt);
+        record.loses_points(reporter.rt, step);
     }
 }
 
 /// A fragment of an outstation with these octets was refused.
-fn refused<R: Wait, C: Clock>(
+fn note_unreadable<R: Wait, C: Clock>(
     reporter: &Reporter<'_, R, C>,
     outstation: u8,
     octets: &[u8],
@@ -89,7 +89,10 @@ fn refused<R: Wait, C: Clock>(
         return;
     };
     let (wall, fault) = (reporter.clock.wall(), Unreadable::of(fault, octets));
-    let told = record.figures.lock(reporter.rt).refused(wall, fault);
+    let told = record
+        .figures
+        .lock(reporter.rt)
+        .note_unreadable(wall, fault);
     if let Some(left_out) = told {
         reporter.tell(JournalEvent::FragmentRefused {
             outstation,
@@ -100,25 +103,25 @@ fn refused<R: Wait, C: Clock>(
 }
 
 /// An APDU of a client was taken.
-fn heard<R: Wait, C: Clock>(reporter: &Reporter<'_, R, C>, client: u8, kind: ApduKind) {
+fn note_apdu<R: Wait, C: Clock>(reporter: &Reporter<'_, R, C>, client: u8, kind: ApduKind) {
     if let Some(record) = reporter.peers.client(client) {
         let confirms_test = matches!(kind, ApduKind::UFormat(Signal::TestCon));
         record.hears(reporter.rt, reporter.clock.moment(), confirms_test);
     }
     match kind {
-        ApduKind::UFormat(signal) => signalled(reporter, client, signal),
-        ApduKind::Unknown(asdu) => asked_unknown(reporter, client, asdu),
+        ApduKind::UFormat(signal) => note_signal(reporter, client, signal),
+        ApduKind::Unknown(asdu) => note_unknown(reporter, client, asdu),
         ApduKind::SFormat | ApduKind::Command(_) | ApduKind::Other => {}
     }
 }
 
 /// A client sent an ASDU of a type that isn't known.
-fn asked_unknown<R: Wait, C: Clock>(reporter: &Reporter<'_, R, C>, client: u8, asdu: UnknownAsdu) {
+fn note_unknown<R: Wait, C: Clock>(reporter: &Reporter<'_, R, C>, client: u8, asdu: UnknownAsdu) {
     let Some(record) = reporter.peers.client(client) else {
         return;
     };
     let wall = reporter.clock.wall();
-    let told = record.figures.lock(reporter.rt).unknown(wall, asdu);
+    let told = record.figures.lock(reporter.rt).note_unknown(wall, asdu);
     if let Some((address, asdus)) = told {
         reporter.tell(JournalEvent::UnknownTypes {
             client,
@@ -129,7 +132,7 @@ fn asked_unknown<R: Wait, C: Clock>(reporter: &Reporter<'_, R, C>, client: u8, a
 }
 
 /// A client is tested, where the APDUs that it is given by pumps have a TESTFR act.
-fn tested<R: Wait, C: Clock>(reporter: &Reporter<'_, R, C>, pumps: &Pumps<'_>) {
+fn note_test<R: Wait, C: Clock>(reporter: &Reporter<'_, R, C>, pumps: &Pumps<'_>) {
     if Apdus(pumps.apdus).any(|apdu| apdu.get(CONTROL) == Some(&TEST_ACT)) {
         if let Some(record) = reporter.peers.client(pumps.client) {
             record.tests(reporter.rt, pumps.moment);
@@ -138,7 +141,7 @@ fn tested<R: Wait, C: Clock>(reporter: &Reporter<'_, R, C>, pumps: &Pumps<'_>) {
 }
 
 /// A client sent the act of a U format.
-fn signalled<R: Wait, C: Clock>(reporter: &Reporter<'_, R, C>, client: u8, signal: Signal) {
+fn note_signal<R: Wait, C: Clock>(reporter: &Reporter<'_, R, C>, client: u8, signal: Signal) {
     let Some(record) = reporter.peers.client(client) else {
         return;
     };
@@ -169,18 +172,20 @@ fn tell_reply<R: Wait, C: Clock>(
     match (kind, reply) {
         (StepKind::Fragment(outstation), Reply::Verdict(Verdict::Accepted { end, .. })) => {
             if let Some(reported) = effects.reported() {
-                answered(reporter, number, outstation, &reported, *end);
+                note_response(reporter, number, outstation, &reported, *end);
             }
         }
-        (StepKind::Poll(outstation), Reply::Request(_)) => asked(reporter, outstation),
-        (StepKind::OutstationDown(outstation), Reply::Done) => lost(reporter, outstation),
+        (StepKind::Poll(outstation), Reply::Request(_)) => note_request(reporter, outstation),
+        (StepKind::OutstationDown(outstation), Reply::Done) => {
+            note_points_lost(reporter, number, outstation);
+        }
         (StepKind::Tick, Reply::Ticked { closed }) => {
             reporter.peers.last_tick.note(reporter.clock.moment());
-            expired(reporter, *closed);
+            note_expiry(reporter, *closed);
         }
         (StepKind::Frame(client), Reply::Taken) => {
             if let Some(kind) = effects.apdu() {
-                heard(reporter, client, kind);
+                note_apdu(reporter, client, kind);
             }
         }
         _ => {}
@@ -196,7 +201,7 @@ fn tell_effects<R: Wait, C: Clock>(
     effects: &Effects,
 ) {
     for outstation in effects.unanswered().iter() {
-        unanswered(reporter, number, *outstation);
+        note_timeout(reporter, number, *outstation);
     }
     if let StepKind::Frame(client) = kind {
         note_refusal(reporter, number, client, effects);
@@ -236,7 +241,7 @@ impl<'a, R: Wait, C: Clock, G: Gate> Observer for Watched<'a, R, C, G> {
     }
 
     fn pumps(&self, pumps: &Pumps<'_>) {
-        tested(self.reporter, pumps);
+        note_test(self.reporter, pumps);
         tell_of_commands(self.reporter, pumps);
         self.gate.pumps(pumps);
     }
@@ -249,7 +254,7 @@ impl<'a, R: Wait, C: Clock, G: Gate> Gate for Watched<'a, R, C, G> {
 
     fn refused(&self, outstation: u8, octets: &[u8], fault: &AppFault) {
         self.gate.refused(outstation, octets, fault);
-        refused(self.reporter, outstation, octets, fault);
+        note_unreadable(self.reporter, outstation, octets, fault);
     }
 
     fn skipped(&self, outstation: u8, octets: u32) {
@@ -258,7 +263,7 @@ impl<'a, R: Wait, C: Clock, G: Gate> Gate for Watched<'a, R, C, G> {
             record
                 .figures
                 .lock(self.reporter.rt)
-                .skipped(u64::from(octets));
+                .note_skipped(u64::from(octets));
         }
     }
 
@@ -274,14 +279,17 @@ impl<'a, R: Wait, C: Clock, G: Gate> Gate for Watched<'a, R, C, G> {
                 source,
                 destination,
             };
-            record.received(self.reporter.rt, control, way);
+            record.note_frame(self.reporter.rt, control, way);
         }
     }
 
     fn passed_over(&self, outstation: u8, objects: u64) {
         self.gate.passed_over(outstation, objects);
         if let Some(record) = self.reporter.peers.outstation(outstation) {
-            record.figures.lock(self.reporter.rt).passed_over(objects);
+            record
+                .figures
+                .lock(self.reporter.rt)
+                .note_passed_over(objects);
         }
     }
 

@@ -4,6 +4,7 @@
 
 mod centre;
 mod log;
+mod numbers;
 mod outstation;
 mod pipe;
 mod random;
@@ -13,6 +14,7 @@ mod virtual_clock;
 
 pub use centre::Centre;
 pub use log::Log;
+pub use numbers::{Numbers, Range};
 pub use outstation::Outstation;
 pub use pipe::{Piece, Pipe, Weather};
 pub use random::Random;

@@ -1,6 +1,7 @@
 //! The numbers of a scenario.
 
 use crate::log::Log;
+use crate::numbers::{Numbers, Range};
 use crate::random::Random;
 
 /// A number of a scenario.
@@ -62,7 +63,7 @@ pub enum Number {
 }
 
 /// How many numbers there are.
-pub const NUMBERS: usize = 37;
+const NUMBERS: usize = 37;
 
 /// How often in a thousand there are more outstations than usual, and the least and the largest number of them then.
 const MANY: (u64, u64, u64) = (40, 9, 32);
@@ -70,10 +71,7 @@ const MANY: (u64, u64, u64) = (40, 9, 32);
 /// The milliseconds from one poll to the next where they are rare.
 const QUIET_POLL_MS: u64 = 200_000;
 
-/// What a number is called, its least and its largest value, and how often in a thousand it is 0 instead.
-type Range = (&'static str, u64, u64, u64);
-
-const RANGES: [Range; NUMBERS] = [
+static RANGES: [Range; NUMBERS] = [
     ("outstations", 2, 8, 0),
     ("centres", 1, 8, 0),
     ("points", 2, 20, 0),
@@ -117,39 +115,29 @@ const RANGES: [Range; NUMBERS] = [
 #[derive(Clone, Copy)]
 pub struct Scenario {
     pub seed: u64,
-    values: [u64; NUMBERS],
+    numbers: Numbers,
 }
 
 impl Scenario {
     /// The scenario of a seed.
-    pub fn drawn(seed: u64) -> Scenario {
+    pub fn of_seed(seed: u64) -> Scenario {
         let mut random = Random::new(seed, 0);
-        let mut values = [0; NUMBERS];
-        for (value, (_, least, most, zero)) in values.iter_mut().zip(&RANGES) {
-            let drawn = random.between(*least, *most);
-            *value = if random.happens(*zero) { 0 } else { drawn };
-        }
+        let mut numbers = Numbers::draw(&RANGES, &mut random);
         let (often, least, most) = MANY;
         if random.happens(often) {
-            values[Number::Outstations as usize] = random.between(least, most);
+            numbers.set(Number::Outstations as usize, random.between(least, most));
         }
-        Scenario { seed, values }
+        Scenario { seed, numbers }
     }
 
-    /// A number of this name has this value; whether there is one.
-    pub fn force(&mut self, name: &str, forced: u64) -> bool {
-        for (value, (known, ..)) in self.values.iter_mut().zip(&RANGES) {
-            if *known == name {
-                *value = forced;
-                return true;
-            }
-        }
-        false
+    /// The word `NAME=NUMBER` gives the number of that name its value; whether there is one.
+    pub fn force(&mut self, word: &str) -> bool {
+        self.numbers.force(&RANGES, word)
     }
 
     /// A number.
     pub fn of(&self, number: Number) -> u64 {
-        self.values.get(number as usize).copied().unwrap_or(0)
+        self.numbers.at(number as usize)
     }
 
     /// A number of seconds, in milliseconds.
@@ -198,8 +186,6 @@ impl Scenario {
 
     /// Tells the numbers.
     pub fn tell(&self, log: &Log<'_>) {
-        for (value, (name, ..)) in self.values.iter().zip(&RANGES) {
-            log.add(*name, &[*value]);
-        }
+        self.numbers.tell(&RANGES, log);
     }
 }

@@ -23,10 +23,9 @@ use std::{env, io};
 fn asked_by(words: &[String]) -> Option<(Scenario, u64)> {
     let seed = words.get(1)?.parse::<u64>().ok()?;
     let seconds = words.get(2)?.parse::<u64>().ok()?;
-    let mut scenario = Scenario::drawn(seed);
+    let mut scenario = Scenario::of_seed(seed);
     for word in words.iter().skip(3) {
-        let (name, number) = word.as_str().split_once('=')?;
-        if !scenario.force(name, number.parse::<u64>().ok()?) {
+        if !scenario.force(word.as_str()) {
             return None;
         }
     }

@@ -81,7 +81,7 @@ impl Registry {
     }
 
     /// Of how many connections somebody else has a handle.
-    pub fn held(&self) -> u64 {
+    pub fn count_handled(&self) -> u64 {
         let mut held: u64 = 0;
         for entry in &self.entries {
             if Rc::strong_count(&entry.connection) >= OTHERS {

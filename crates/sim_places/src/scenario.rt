@@ -1,6 +1,6 @@
 //! The numbers of a scenario.
 
-use sim_peers::{Log, Random};
+use sim_peers::{Log, Numbers, Random, Range};
 
 /// A number of a scenario.
 #[derive(Clone, Copy)]
@@ -37,12 +37,9 @@ pub enum Number {
 }
 
 /// How many numbers there are.
-pub const NUMBERS: usize = 17;
+const NUMBERS: usize = 17;
 
-/// What a number is called, its least and its largest value, and how often in a thousand it is 0 instead.
-type Range = (&'static str, u64, u64, u64);
-
-const RANGES: [Range; NUMBERS] = [
+static RANGES: [Range; NUMBERS] = [
     ("centres", 2, 24, 0),
     ("addresses", 1, 6, 0),
     ("foreign", 1, 2, 700),
@@ -66,35 +63,26 @@ const RANGES: [Range; NUMBERS] = [
 #[derive(Clone, Copy)]
 pub struct Scenario {
     pub seed: u64,
-    values: [u64; NUMBERS],
+    numbers: Numbers,
 }
 
 impl Scenario {
     /// The scenario of a seed.
-    pub fn drawn(seed: u64) -> Scenario {
-        let mut random = Random::new(seed, 0);
-        let mut values = [0; NUMBERS];
-        for (value, (_, least, most, zero)) in values.iter_mut().zip(&RANGES) {
-            let drawn = random.between(*least, *most);
-            *value = if random.happens(*zero) { 0 } else { drawn };
+    pub fn of_seed(seed: u64) -> Scenario {
+        Scenario {
+            seed,
+            numbers: Numbers::draw(&RANGES, &mut Random::new(seed, 0)),
         }
-        Scenario { seed, values }
     }
 
-    /// A number of this name has this value; whether there is one.
-    pub fn force(&mut self, name: &str, forced: u64) -> bool {
-        for (value, (known, ..)) in self.values.iter_mut().zip(&RANGES) {
-            if *known == name {
-                *value = forced;
-                return true;
-            }
-        }
-        false
+    /// The word `NAME=NUMBER` gives the number of that name its value; whether there is one.
+    pub fn force(&mut self, word: &str) -> bool {
+        self.numbers.force(&RANGES, word)
     }
 
     /// A number.
     pub fn of(&self, number: Number) -> u64 {
-        self.values.get(number as usize).copied().unwrap_or(0)
+        self.numbers.at(number as usize)
     }
 
     /// A number of seconds, in milliseconds.
@@ -113,7 +101,7 @@ impl Scenario {
     }
 
     /// How many of these may connect, where that is said.
-    pub fn allowed(&self) -> Option<u64> {
+    pub fn allowed_addresses(&self) -> Option<u64> {
         match self.of(Number::Foreign) {
             0 => None,
             foreign => Some(self.addresses().saturating_sub(foreign).max(1)),
@@ -138,8 +126,6 @@ impl Scenario {
 
     /// Tells the numbers.
     pub fn tell(&self, log: &Log<'_>) {
-        for (value, (name, ..)) in self.values.iter().zip(&RANGES) {
-            log.add(*name, &[*value]);
-        }
+        self.numbers.tell(&RANGES, log);
     }
 }

@@ -172,7 +172,7 @@ impl Worker {
     /// Marks the record of the slot.
     fn mark<R: Wait>(&mut self, stage: &Stage<'_, R>) {
         if let Some(record) = stage.record(self.slot) {
-            record.expires(stage.rt);
+            record.note_expiry(stage.rt);
             self.is_marked = true;
         }
     }
@@ -180,7 +180,7 @@ impl Worker {
     /// Looks whom the slot was given to.
     fn look<R: Wait>(&mut self, now: u64, stage: &Stage<'_, R>, is_closed: bool) {
         self.at = u64::MAX;
-        match stage.slots.given(stage.rt, self.slot) {
+        match stage.slots.take_given(stage.rt, self.slot) {
             Some(client) => self.begin(now, stage, client),
             None if is_closed => self.phase = Phase::Gone,
             None => {}
@@ -307,7 +307,7 @@ impl Worker {
             return;
         };
         if self.timers.is_tested() {
-            record.expires(stage.rt);
+            record.note_expiry(stage.rt);
             stage.log.add("expired", &[u64::from(self.slot)]);
             return self.end(now, stage);
         }
@@ -372,10 +372,7 @@ impl Worker {
 
     /// The workers are back.
     fn free<R: Wait>(&mut self, now: u64, stage: &Stage<'_, R>) {
-        let is_told = stage.slots.free(stage.rt, self.slot, stage.clock.wall());
-        if is_told {
-            stage.reporter.tell(JournalEvent::PlaceFree);
-        }
+        stage.slots.free(stage.reporter, self.slot);
         stage.log.add("freed", &[u64::from(self.slot)]);
         self.phase = Phase::Idle;
         self.at = now;

@@ -124,7 +124,7 @@ impl World {
             busy = busy.saturating_add(u64::from(worker.is_busy()));
         }
         let backlog = self.accepting.forget();
-        log.add("remaining", &[busy, self.registry.held(), backlog]);
+        log.add("remaining", &[busy, self.registry.count_handled(), backlog]);
     }
 }
 
@@ -233,7 +233,7 @@ fn play_at<R: Wait + Print>(
 /// The networks that are allowed, where any is named.
 fn allowed_by(alloc: Global, scenario: &Scenario) -> Result<Vec<Network>, AllocError> {
     let mut networks = Vec::new(alloc);
-    let count = scenario.allowed().unwrap_or(0);
+    let count = scenario.allowed_addresses().unwrap_or(0);
     for (number, text) in (0u64..).zip(&NETWORKS) {
         if number < count {
             if let Some(network) = Network::read(*text) {
