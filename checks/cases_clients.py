@@ -6,7 +6,7 @@ from contextlib import suppress
 
 from framing import i_format, s_format, spelled, u_format
 from harness import (
-    BINARY, BINARY_OFF, BINARY_ON, DEAF, DEAF_MS, DEAF_SECONDS, EARLY, FREE, GAVE_WAY, HOSTS, LOOK, MINUTE, OFF, ON,
+    BINARY, BINARY_OFF, BINARY_ON, DEAF, DEAF_MS, DEAF_SECONDS, FREE, GAVE_WAY, HOSTS, LOOK, MINUTE, OFF, ON,
     OPENING, OTHER_HOST, READ, RECONNECTS, SLACK, TAKEN, TICK, WALL, Scene, alone, case, count_up, point, within,
 )
 from peers import (
@@ -353,21 +353,6 @@ def calm(scene: Scene) -> None:
 
 
 @case
-def redundant_servers(scene: Scene) -> None:
-    """four servers behind one address, each with a connection that transfers data and one that doesn't, keep them all"""
-    scene.start(t3_ms=T3_MS)
-    live = [scene.client(host=HOST) for _ in range(4)]
-    for centre in live:
-        centre.start()
-    standbys = [Standby(it) for it in live] + [standby(scene, HOST) for _ in range(3)]
-    time.sleep(GRACE + EARLY)
-    standbys.append(standby(scene, HOST))
-    scene.told(TAKEN)
-    scene.tells_nothing(2 * DEAD)
-    same("connections without a test", [it.centre.name for it in standbys if not it.came], [])
-
-
-@case
 def standbys_of_two_addresses(scene: Scene) -> None:
     """where control centres of two addresses have all places and confirm each test, a newcomer waits; a dead one of its own
     address gives way to it, and none of the other one's"""
@@ -463,37 +448,6 @@ def stopped_standby(scene: Scene) -> None:
 
 
 @case
-def standby_clients_at_once(scene: Scene) -> None:
-    """to control centres that wait together as many give way, the ones that connected first"""
-    scene.start(t3_ms=T3_MS)
-    began, silent = time.monotonic(), [scene.client(host=HOST) for _ in range(5)]
-    for _ in range(3):
-        standby(scene, next(HOSTS))
-    scene.told(TAKEN)
-    scene.passed_over += rf"|{TAKEN}|{FREE}|client \d {HOST}:\d+ .+"
-    scene.centres = [it for it in scene.centres if it not in silent]
-    waiting = [newcomer(scene, HOST) for _ in range(3)]
-    for centre in silent[:3]:
-        same_octets("the octets of the one that gives way", centre.rest(), bytes.fromhex(TEST))
-        within("the way given", time.monotonic() - began, DEAD, DEAD + TICK + LOOK)
-    for centre in waiting:
-        centre.wants(START_CON)
-    for centre in silent[3:]:
-        centre.wants(TEST)
-        centre.quiet(LOOK)
-
-
-@case
-def new_clients(scene: Scene) -> None:
-    """eight control centres that connect, and then start, keep their places"""
-    scene.start()
-    centres = [scene.client(host=HOST) for _ in range(8)]
-    scene.told(TAKEN)
-    for centre in centres:
-        centre.start()
-
-
-@case
 def started_clients(scene: Scene) -> None:
     """control centres that have started don't give way, though nothing comes from them, until t1 closes them; one that starts
     just before it would have to, doesn't either"""
@@ -512,25 +466,6 @@ def started_clients(scene: Scene) -> None:
         same_octets("the octets of one that is closed", centre.rest(), bytes.fromhex(START_CON + TEST))
         within("the close", time.monotonic() - began, T3 + 5 - TICK, T3 + 5 + 2 * TICK + LOOK)
     waiting.wants(START_CON)
-
-
-@case
-def other_clients(scene: Scene) -> None:
-    """control centres of another address don't give way"""
-    scene.bend(WALL)
-    scene.start(t3_ms=T3_MS)
-    others = [scene.client(host=OTHER_HOST) for _ in range(7)]
-    standby(scene, HOST)
-    scene.told(TAKEN)
-    waiting = newcomer(scene, HOST)
-    waiting.quiet(DEAD + T3)
-    scene.tells_nothing(0)
-    calm(scene)
-    scene.leave(others[3])
-    scene.told(FREE)
-    served(scene, waiting)
-    same("the place", waiting.place, others[3].place)
-    scene.told(TAKEN)
 
 
 @case

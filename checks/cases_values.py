@@ -308,9 +308,10 @@ def lines_in(path: Path, count: int) -> list[str]:
 
 @case
 def events_as_lines(scene: Scene) -> None:
-    """each spontaneous observation is a line of a file, to which a gateway that is started again adds"""
+    """each spontaneous observation is a line of a file, to which a gateway that is started again adds, also behind a line that was
+    cut"""
     path = events_file(scene)
-    path.write_text("earlier\n")
+    path.write_text("earlier\ncut")
     scene.bend(WALL)
     scene.passed_over += r"|outstation 0 .*  .*"
     outstation = scene.outstation()
@@ -321,8 +322,8 @@ def events_as_lines(scene: Scene) -> None:
     link.connection.close()
     scene.links.pop(outstation)
     front, point_of = f"{WALL_TEXT},", f"0,Bay,1,{BINARY},\"Q,0\",single point"
-    same("the lines of the file", lines_in(path, 4), [
-        "earlier", f"{front},,{point_of},on,,spontaneous", f"{front}{STAMP_TEXT},,{point_of},off,,spontaneous",
+    same("the lines of the file", lines_in(path, 5), [
+        "earlier", "cut", f"{front},,{point_of},on,,spontaneous", f"{front}{STAMP_TEXT},,{point_of},off,,spontaneous",
         f"{front},,{point_of},off,NT,spontaneous"])
 
 
