@@ -451,29 +451,6 @@ def stuck_indications(scene: Scene) -> None:
 
 
 @case
-def orders_while_it_rests(scene: Scene) -> None:
-    """orders go at once to an outstation that isn't asked for a while, since its indications stay"""
-    scene.passed_over += ORDERED
-    outstation = scene.outstation(lan_time=True)
-    scene.begin(scene.settings({}, points(1), CONTROLS))
-    stuck, centre = Stuck(scene.accept(outstation), 0x1E), scene.started()
-    scene.told(f"{outstation.name} {TROUBLES[2]}")
-    time.sleep(2.5)
-    before, times = len(stuck.came), []
-    for number in range(8):
-        began = time.monotonic()
-        centre.ask(OFF_COMMAND)
-        centre.takes(*(asdu(46, cause, DOUBLE, "01") for cause in (CONFIRMATION, TERMINATION)))
-        times.append(next(at for at, function in reversed(stuck.came) if function == DIRECT_OPERATE) - began)
-        time.sleep(0.1 + 0.03 * number)
-    if median(times) > TICK / 4:
-        raise Difference(f"an order: wanted in {TICK / 4} s, got in {median(times):.4f} s")
-    others = [function for _, function in stuck.came[before:] if function != DIRECT_OPERATE]
-    if len(others) > 6:
-        raise Difference(f"other requests in two seconds: wanted 6 at most, got {len(others)}")
-
-
-@case
 def no_answer_behind_a_rest(scene: Scene) -> None:
     """behind rests an answer doesn't come: events are told meanwhile, the next poll comes by its period, and no rest before
     ten more"""

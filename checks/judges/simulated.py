@@ -28,6 +28,9 @@ TICK, PAUSE, LOOK, NAP = 100, 1000, 250, 5
 # The milliseconds behind which the status of a quiet link is asked for, how long a reader waits for octets at most, and how long an
 # outstation rests at most behind a streak of requests.
 QUIET, LONGEST_WAIT, LONGEST_REST = 60_000, 4000, 1000
+# Behind how many requests of a streak it rests, and how long at least; by which functions a clock is set; behind how many answers
+# after a restart that is known to be cleared.
+STREAK, SHORTEST_REST, AT_ONCE, UNSURE = 10, 20, (2, 24), 4
 # How a reader ends if nothing of what comes is an answer, and if the status of the link doesn't come.
 UNANSWERED, LINK_UNANSWERED = 3, 4
 # How many orders of an outstation wait at most or are under way, and how many passes there are.
@@ -942,6 +945,83 @@ class Answers(Judge):
         self.is_stopping = True
 
 
+@dataclass
+class Streak:
+    """Requests by which a clock is set, in a row, which bring nothing: how many were answered; how long the outstation rests behind
+    them, and until when; when one that is no order was sent last; what the last two ask for. A WRITE behind another one, or soon
+    behind a restart, may clear that instead."""
+
+    sent: int
+    answered: int = 0
+    rest: int = 0
+    until: int = 0
+    function: int = 0
+    before: int = 0
+    unsure: int = 0
+    is_order: bool = False
+    has_brought: bool = False
+
+    def end(self) -> None:
+        self.answered = self.rest = self.until = 0
+
+
+class Rests(Judge):
+    """Behind a streak of requests an outstation rests, ever longer, but for orders, which don't end the streak."""
+
+    def __init__(self, numbers: dict[str, int]) -> None:
+        super().__init__(numbers)
+        self.streaks: dict[int, Streak] = {}
+        self.poll = QUIET_POLL if numbers["quiet"] else numbers["poll_ms"]
+
+    def on_opened(self, now: int, kind: int, peer: int) -> None:
+        if kind == OUTSTATION:
+            self.streaks[peer] = Streak(now)
+
+    def on_ended(self, now: int, kind: int, peer: int, worker: int, end: int) -> None:
+        if kind == OUTSTATION:
+            self.streaks.pop(peer, None)
+
+    def on_asked(self, now: int, outstation: int, function: int, order: int) -> None:
+        streak = self.streaks.get(outstation)
+        if streak is None:
+            return
+        streak.is_order, streak.has_brought = bool(order), False
+        if order:
+            return
+        streak.before, streak.function = streak.function, function
+        if now - streak.sent >= self.poll:
+            streak.end()
+        text = f"outstation {outstation} is asked, and was to rest until {streak.until}"
+        need(now >= streak.until, "streak", text)
+        streak.sent = now
+
+    def on_accepted(self, now: int, outstation: int, answers: int, observations: int, news: int, ends: int) -> None:
+        streak = self.streaks.get(outstation)
+        if streak is None or not answers:
+            return
+        if observations:
+            streak.has_brought = True
+            streak.end()
+        if not ends or streak.is_order or streak.has_brought:
+            return
+        if streak.function not in AT_ONCE or streak.function == streak.before or streak.unsure:
+            streak.unsure = max(streak.unsure - 1, 0)
+            streak.end()
+            return
+        streak.answered += 1
+        if streak.answered > STREAK:
+            streak.rest = min(max(2 * streak.rest, SHORTEST_REST), LONGEST_REST)
+            streak.until = now + streak.rest
+
+    def on_restart(self, now: int, outstation: int) -> None:
+        if outstation in self.streaks:
+            self.streaks[outstation].unsure = UNSURE
+
+    def on_unanswered(self, now: int, outstation: int) -> None:
+        if outstation in self.streaks:
+            self.streaks[outstation].end()
+
+
 class Links(Judge):
     """The status of a link is asked for in time, once, and of a quiet one alone; a fragment is confirmed as often as it comes."""
 
@@ -953,9 +1033,11 @@ class Links(Judge):
         self.mute: set[int] = set()
         self.response = numbers["response_ms"]
         silence = 3 * self.response + (QUIET_POLL if numbers["quiet"] else numbers["poll_ms"])
-        # A reader looks each time it has waited for octets for so long. Fragments may have been held back before, or a frame begun.
+        # A reader looks each time it has waited for octets for so long, and may stand still behind each wait. Fragments may have been
+        # held back before, or a frame begun.
         wait = silence // (silence // LONGEST_WAIT + 1)
-        self.limit = QUIET + wait + self.held + (CUT if numbers["cut"] else 0)
+        waits = -(-QUIET // wait)
+        self.limit = waits * (wait + numbers["hold_ms"]) + self.held + (CUT if numbers["cut"] else 0)
         # When repetitions were sent that aren't confirmed yet. Each waits until those before it are taken, which may be held back.
         self.repeats: dict[int, deque[int]] = defaultdict(deque)
         self.confirmed_within = 2 * self.way + UNDER_WAY * self.held
@@ -1033,7 +1115,7 @@ class Links(Judge):
         raise Fault("twice", f"a fragment of outstation {outstation} is confirmed twice")
 
 
-JUDGES: tuple[type[Judge], ...] = (Workers, News, Mirrors, Orders, ClientTimers, Writers, Answers, Links)
+JUDGES: tuple[type[Judge], ...] = (Workers, News, Mirrors, Orders, ClientTimers, Writers, Answers, Rests, Links)
 
 
 def judge(lines: list[str], count: int) -> None:

@@ -236,12 +236,14 @@ impl Outstation {
         wants
     }
 
-    /// Whether it may send an unsolicited response.
+    /// Whether it may send an unsolicited response. Not while octets of the last one wait: their sequence numbers are those of every
+    /// sixteenth one, so a late confirmation would be taken for that of another.
     fn may_send(&self) -> bool {
         self.is_connected
             && self.is_enabled
             && self.awaited.is_none()
             && self.further.is_none()
+            && self.trickling.is_empty()
             && !self.events.is_empty()
     }
 
