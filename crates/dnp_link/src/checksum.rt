@@ -12,14 +12,14 @@ pub fn crc(octets: &[u8]) -> u16
 {
     let mut register = 0;
     for octet in octets {
-        register = shifted(register, *octet);
+        register = shift(register, *octet);
     }
     !register
 }
 
 /// The register after one more octet.
 #[inline(always)]
-fn shifted(register: u16, octet: u8) -> u16
+fn shift(register: u16, octet: u8) -> u16
     ensures { (before : List ℕ) → register ≡ number (remainder (message before))
         → result ≡ number (remainder (message (before ++ octet ∷ []))) }
 {

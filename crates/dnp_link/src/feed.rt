@@ -60,14 +60,14 @@ impl LinkFeed {
         // Less than the longest frame is held back where there is none.
         ensures held { IfNone result (length self.new < 292) }
     {
-        match front_of(self.octets.left()) {
+        match front_of(self.octets.rest()) {
             Front::Nothing => None,
             Front::Skip(why) => {
                 self.octets.use_up(1);
                 Some(LinkEvent::Skipped(why))
             }
             Front::Whole(len) => {
-                let Some(frame) = frame_at(self.octets.left(), len) else {
+                let Some(frame) = frame_at(self.octets.rest(), len) else {
                     self.octets.use_up(1);
                     return Some(LinkEvent::Skipped(SkipReason::BadBlockCrc));
                 };

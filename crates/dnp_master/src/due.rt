@@ -138,7 +138,7 @@ impl DueTasks {
     }
 
     /// Once a task ended without an answer.
-    pub fn unanswered(self, task: Task) -> DueTasks
+    pub fn once_unanswered(self, task: Task) -> DueTasks
         ensures { result ≡ due_unanswered task self }
     {
         let mut due = self;

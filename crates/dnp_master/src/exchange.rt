@@ -93,12 +93,12 @@ impl Exchange {
     }
 
     /// The order that was taken and has not ended, as one that failed.
-    pub fn failed(self) -> Option<Ended>
+    pub fn failure(self) -> Option<Ended>
         ensures { result ≡ option_map (ended false) (order_taken self) }
     {
         match self {
             Exchange::Idle => None,
-            Exchange::Waiting(awaited) => awaited.task.failed(),
+            Exchange::Waiting(awaited) => awaited.task.failure(),
             Exchange::Selected(order) => Some(Ended {
                 number: order.number,
                 done: false,

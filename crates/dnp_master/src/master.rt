@@ -144,7 +144,7 @@ impl Master {
     pub fn ended_by_loss(&self) -> Option<Ended>
         ensures { result ≡ ended_by_loss self.now }
     {
-        self.exchange.failed()
+        self.exchange.failure()
     }
 
     /// Whether an order can be taken: the outstation is up, no request awaits its answer, and no OPERATE is due.
@@ -382,7 +382,7 @@ impl Master {
     {
         match self.exchange {
             Exchange::Waiting(awaited) if awaited.is_late(moment, &self.poll) => {
-                awaited.task.failed()
+                awaited.task.failure()
             }
             _ => None,
         }
@@ -400,7 +400,7 @@ impl Master {
             return None;
         }
         self.exchange = Exchange::Idle;
-        self.due = self.due.unanswered(awaited.task);
-        awaited.task.failed()
+        self.due = self.due.once_unanswered(awaited.task);
+        awaited.task.failure()
     }
 }

@@ -63,7 +63,7 @@ impl Task {
     }
 
     /// The order that the task is a part of, as one that failed.
-    pub fn failed(self) -> Option<Ended>
+    pub fn failure(self) -> Option<Ended>
         ensures { result ≡ option_map (ended false) (order_of self) }
     {
         match self {
@@ -111,7 +111,7 @@ impl Task {
     }
 
     /// How the order of the task ends with an answer.
-    fn ended(self, done: bool) -> Option<Ended>
+    fn order_end(self, done: bool) -> Option<Ended>
         ensures { result ≡ ended_answered self done }
     {
         match self {
@@ -129,7 +129,7 @@ impl Task {
         ensures { result ≡ ended_with self response.now }
     {
         if response.control().fin {
-            self.ended(self.is_done(response))
+            self.order_end(self.is_done(response))
         } else {
             None
         }

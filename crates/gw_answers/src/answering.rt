@@ -37,7 +37,7 @@ pub fn under(common_address: u16, command: &Command) -> Command
 }
 
 /// The confirmation of a command's activation or deactivation.
-pub fn confirmed(negative: bool, command: &Command) -> OwnAsdu
+pub fn confirmation_of(negative: bool, command: &Command) -> OwnAsdu
     ensures { result ≡ confirmed negative command.now }
 {
     let cause = if command.cause == DEACTIVATION {
@@ -70,7 +70,7 @@ pub fn places_for(pending: bool, judged: &Judged) -> usize
 
 /// The answer that an ASDU gets at once, if any, while `picture` shows the rows of `settings`, and an interrogation is
 /// pending or not.
-pub fn answered(
+pub fn answer_at_once(
     settings: &Settings,
     picture: &[Observation],
     pending: bool,
@@ -103,7 +103,7 @@ fn answered_action(
                 None
             } else {
                 let first = first_asked(settings, command.common_address);
-                Some(AsduAnswer::Made(confirmed(true, &under(first, command))))
+                Some(AsduAnswer::Made(confirmation_of(true, &under(first, command))))
             }
         }
         Action::Read => shown_at(settings, picture, command).map(|observation| {

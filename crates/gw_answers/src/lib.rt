@@ -8,7 +8,7 @@ pub mod laws;
 mod octets;
 mod outgoing;
 
-pub use answering::{answered, command_by, command_with, confirmed, places_for, under};
+pub use answering::{answer_at_once, command_by, command_with, confirmation_of, places_for, under};
 pub use interrogation::{AnswerSection, cause_for, is_accepted_act, sections_of};
 pub use octets::{PackedAsdu, answer_asdu, pack};
 pub use outgoing::{AsduAnswer, OwnAsdu};

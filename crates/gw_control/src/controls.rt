@@ -467,13 +467,13 @@ fn copied_over(spare: Vec<Outgoing>, outgoing: &[Outgoing]) -> Result<Vec<Outgoi
     let mut copy = Vec::with_capacity(*spare.allocator(), outgoing.len())?;
     let mut spares = spare.into_iter();
     for one in outgoing {
-        copy.push(copied(one, spares.next())?)?;
+        copy.push(copy_into_spare(one, spares.next())?)?;
     }
     Ok(copy)
 }
 
 /// Equal orders of an outstation, in the memory of spare ones if there are any.
-fn copied(outgoing: &Outgoing, spare: Option<Outgoing>) -> Result<Outgoing, Memory>
+fn copy_into_spare(outgoing: &Outgoing, spare: Option<Outgoing>) -> Result<Outgoing, Memory>
     ensures { IfOk result (λ copy. copy ≡ outgoing.now) }
 {
     match spare {

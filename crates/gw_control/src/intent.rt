@@ -39,10 +39,10 @@ pub(crate) fn act_of(action: &Action, operates: &Operates) -> Option<Act>
 {
     match (action, operates) {
         (Action::Single(command), Operates::Single(pulses)) => {
-            switched(command.on, command.qualifier, pulses)
+            switch_of(command.on, command.qualifier, pulses)
         }
         (Action::Double(command), Operates::Double(pulses)) => {
-            switched(state_of(command.state)?, command.qualifier, pulses)
+            switch_of(state_of(command.state)?, command.qualifier, pulses)
         }
         (Action::Setpoint(command), Operates::Setpoint(scale)) if command.qualifier == 0 => {
             Some(Act::Set(value_of(command.value, scale)?))
@@ -66,7 +66,7 @@ pub(crate) fn element_refusal(action: &Action, operates: &Operates) -> Refusal
     }
 }
 
-fn switched(on: bool, qualifier: u8, pulses: &Pulses) -> Option<Act>
+fn switch_of(on: bool, qualifier: u8, pulses: &Pulses) -> Option<Act>
     ensures { result ≡ switched on qualifier pulses.now }
 {
     let shape = shape_of(qualifier, pulses)?;
@@ -103,7 +103,7 @@ fn shape_of(qualifier: u8, pulses: &Pulses) -> Option<Shape>
 fn value_of(value: i16, scale: &Scale) -> Option<i16>
     ensures { result ≡ value_of value scale.now }
 {
-    let scaled = scale.scaled(i32::from(value));
+    let scaled = scale.apply(i32::from(value));
     if scaled < -32768 || scaled > 32767 {
         None
     } else {

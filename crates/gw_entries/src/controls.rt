@@ -69,7 +69,7 @@ pub fn read_control(
     entry.check(alloc, position, count_of(outstations))?;
     let show = entry.word("show", &SHOWS, ControlShow::Single);
     if let Some(key) = mismatch(entry, show) {
-        return Err(entry.mismatched(key, position));
+        return Err(entry.mismatch_fault(key, position));
     }
     let pulses = Pulses {
         rest: entry.word("rest", &RESTS, Rest::Latch),

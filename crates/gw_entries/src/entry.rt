@@ -135,7 +135,7 @@ impl<'a> Entry<'a> {
     }
 
     /// A whole number.
-    pub(crate) fn signed(self, name: &str) -> i64
+    pub(crate) fn integer(self, name: &str) -> i64
         ensures { result
             ≡ as_signed (value_in (rules_of self.entry.section) name.now (table_view self.entry.table.now)) }
     {
@@ -147,7 +147,7 @@ impl<'a> Entry<'a> {
         ensures { result
             ≡ as_number (value_in (rules_of self.entry.section) name.now (table_view self.entry.table.now)) }
     {
-        self.signed(name).unsigned_abs()
+        self.integer(name).unsigned_abs()
     }
 
     /// A whole number that isn't negative; the largest of 16 bits, where it has more.
@@ -226,8 +226,8 @@ impl<'a> Entry<'a> {
         let number = datum.integer().unwrap_or(0);
         match content {
             KeyContent::Number(first, last) => first <= number && number <= last,
-            KeyContent::NumberTo(first, key) => first <= number && number <= self.signed(key),
-            KeyContent::NumberBelow(first, key) => first <= number && number < self.signed(key),
+            KeyContent::NumberTo(first, key) => first <= number && number <= self.integer(key),
+            KeyContent::NumberBelow(first, key) => first <= number && number < self.integer(key),
             KeyContent::Outstation => 0 <= number && number < i64::from(outstations),
             KeyContent::Word(words) => words.contains(&datum.text().unwrap_or("")),
             KeyContent::PosixRule => rule_read(datum.text().unwrap_or("")).is_some(),
@@ -286,7 +286,7 @@ impl<'a> Entry<'a> {
     }
 
     /// The entry at a position has a key that doesn't fit its others.
-    pub(crate) fn mismatched(self, key: &'static str, position: usize) -> SettingsFault
+    pub(crate) fn mismatch_fault(self, key: &'static str, position: usize) -> SettingsFault
         ensures { refusal_of result ≡ refused (complaint self.entry.section position (KindMismatch, key.now)) }
     {
         let fault = KeyFault {

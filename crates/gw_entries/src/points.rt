@@ -94,7 +94,7 @@ pub fn read_row(
     let kind = entry.word("kind", &KINDS, Kind::Binary);
     let show = entry.word("show", &SHOWS, usual_show(kind));
     if let Some(key) = mismatch(entry, kind, show) {
-        return Err(entry.mismatched(key, position));
+        return Err(entry.mismatch_fault(key, position));
     }
     let outstation = entry.number_u16("outstation") as u8;
     Ok(Row {

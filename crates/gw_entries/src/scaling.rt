@@ -6,7 +6,7 @@ use crate::row::Scale;
 
 impl Scale {
     /// A value multiplied by the scale, truncated toward zero.
-    pub fn scaled(self, value: i32) -> i64
+    pub fn apply(self, value: i32) -> i64
         ensures { result ≡ scaled_by self value }
     {
         i64::from(value) * i64::from(self.num) / i64::from(self.den)

@@ -73,7 +73,7 @@ pub fn read_station(alloc: Global, table: &Table) -> Result<Station, SettingsFau
     Ok(Station {
         common_address: entry.number_u16("common_address"),
         master_address: entry.number_u16("master_address"),
-        offset_minutes: entry.signed("offset_minutes") as i16,
+        offset_minutes: entry.integer("offset_minutes") as i16,
         rule: entry.rule("rule"),
         k: entry.number_u16("k"),
         w: entry.number_u16("w"),

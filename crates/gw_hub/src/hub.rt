@@ -296,7 +296,7 @@ impl Hub {
         ensures step { Answers self.old (steps.OutstationDown outstation moment) result self.new }
         ensures setup { self.new.setup ≡ self.old.setup }
     {
-        self.reached(outstation)?;
+        self.check_outstation(outstation)?;
         let news = self.picture.losses(outstation, self.settings.get());
         if !self.counts.can_rise(news as u64, 0) {
             return Err(StepFault::Spent);
@@ -387,7 +387,7 @@ impl Hub {
         ensures step { Answers self.old (steps.Poll outstation moment wall) result self.new }
         ensures setup { self.new.setup ≡ self.old.setup }
     {
-        self.reached(outstation)?;
+        self.check_outstation(outstation)?;
         self.count(moment)?;
         let order = self.take_order(outstation);
         Ok(self.outstations.poll(outstation, order, self.moment, wall))
@@ -440,7 +440,7 @@ impl Hub {
         ensures step { Answers self.old (steps.ClientDown client moment) result self.new }
         ensures setup { self.new.setup ≡ self.old.setup }
     {
-        self.connected(client)?;
+        self.check_client(client)?;
         self.count(moment)?;
         self.clients.go_down(client);
         self.controls.end(client);
@@ -451,7 +451,7 @@ impl Hub {
         ensures step { Answers self.old (steps.Frame client apdu.now moment) result self.new }
         ensures setup { self.new.setup ≡ self.old.setup }
     {
-        self.connected(client)?;
+        self.check_client(client)?;
         let begins = self.clients.begins(client, apdu);
         let moment = self.latest(moment);
         if !self.counts.can_rise(0, u64::from(begins)) || !self.can_order(client, apdu, moment) {
@@ -506,7 +506,7 @@ impl Hub {
         ensures step { Answers self.old (steps.Pump client moment) result self.new }
         ensures setup { self.new.setup ≡ self.old.setup }
     {
-        self.connected(client)?;
+        self.check_client(client)?;
         self.count(moment)?;
         Ok(self.clients.pump(client, self.settings.get(), self.moment))
     }

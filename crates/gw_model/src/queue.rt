@@ -37,7 +37,7 @@ impl OctetQueue {
     }
 
     /// The octets that are left.
-    pub fn left(&self) -> &[u8]
+    pub fn rest(&self) -> &[u8]
         ensures { result.now ≡ self.now.left }
     {
         &self.octets[self.used..]

@@ -177,11 +177,11 @@ impl Clients {
     }
 
     /// How many I formats sent to a client are not acknowledged; 0 where there is no such client.
-    pub fn unacknowledged(&self, client: u8) -> usize
+    pub fn unacknowledged_count(&self, client: u8) -> usize
         ensures { result ≡ unacknowledged_at (slice_get self.now.each client) }
     {
         match self.stations.get(usize::from(client)) {
-            Some(station) => station.unacknowledged(),
+            Some(station) => station.unacknowledged_count(),
             None => 0,
         }
     }
@@ -358,13 +358,13 @@ fn copied_all(stations: &Vec<Station>, spare: Vec<Station>) -> Result<Vec<Statio
     let mut copies = Vec::with_capacity(*stations.allocator(), stations.len())?;
     let mut spares = spare.into_iter();
     for station in stations {
-        copies.push(copied(station, spares.next())?)?;
+        copies.push(copy_into_spare(station, spares.next())?)?;
     }
     Ok(copies)
 }
 
 /// An equal station, in the memory of a spare one if there is one.
-fn copied(station: &Station, spare: Option<Station>) -> Result<Station, Memory>
+fn copy_into_spare(station: &Station, spare: Option<Station>) -> Result<Station, Memory>
     ensures { IfOk result (λ copy. copy ≡ station.now) }
 {
     match spare {

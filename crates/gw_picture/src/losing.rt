@@ -35,7 +35,7 @@ fn tells_loss(value: Value, quality: Quality) -> bool
 }
 
 /// An observation as it is shown once its outstation is lost.
-fn lost(shown: Observation) -> Observation
+fn observation_lost(shown: Observation) -> Observation
     ensures { result ≡ lost shown }
 {
     Observation {
@@ -65,7 +65,7 @@ fn loss_at(
     let row = rows.get(position)?;
     let before = *shown.get(position)?;
     if is_lost_with(outstation, row, before) {
-        Some(lost(before))
+        Some(observation_lost(before))
     } else {
         None
     }

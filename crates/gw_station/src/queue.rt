@@ -13,7 +13,7 @@ pub(crate) fn push<T: Copy>(queue: &mut HeapCircularBuffer<T>, item: T)
 }
 
 /// The same items, in the memory of a spare queue that has room for them.
-pub(crate) fn refilled<T: Copy>(
+pub(crate) fn refill<T: Copy>(
     mut spare: HeapCircularBuffer<T>,
     items: &HeapCircularBuffer<T>,
 ) -> HeapCircularBuffer<T>

@@ -3,7 +3,7 @@ ghost use Rattle.std.specs.Prelude.{◌≡◌, ◌+◌, ◌-◌, ◌<◌, ◌≤
 ghost use Rattle.circular_buffer.specs.Buffer.{buffer};
 ghost use Rattle.gw_station.specs.Ring.{empty_ring_after, news_from, oldest, ring_with};
 
-use crate::queue::refilled;
+use crate::queue::refill;
 use circular_buffer::HeapCircularBuffer;
 use gw_model::{Memory, Observation};
 use std::alloc::Global;
@@ -63,7 +63,7 @@ impl NewsRing {
         ensures { result ≡ self.now }
     {
         NewsRing {
-            news: refilled(room, &self.news),
+            news: refill(room, &self.news),
             next: self.next,
         }
     }

@@ -12,7 +12,7 @@ ghost use Rattle.gw_answers.specs.Octets.{IsReturnable};
 use crate::client::Stage;
 use crate::cursor::Cursor;
 use crate::event::Why;
-use crate::queue::refilled;
+use crate::queue::refill;
 use crate::rest::PartsLeft;
 use crate::ring::NewsRing;
 use circular_buffer::HeapCircularBuffer;
@@ -102,9 +102,9 @@ impl Station {
     {
         let window = self.window.copy()?;
         let room = HeapCircularBuffer::with_capacity(self.alloc, MOST_CONFIRMATIONS)?;
-        let confirmations = refilled(room, &self.confirmations);
+        let confirmations = refill(room, &self.confirmations);
         let room = HeapCircularBuffer::with_capacity(self.alloc, MOST_ANSWERS)?;
-        let answers = refilled(room, &self.answers);
+        let answers = refill(room, &self.answers);
         let rest = self.rest.copy()?;
         Ok(Station {
             window,
@@ -122,8 +122,8 @@ impl Station {
         // Nothing of its answer is used.
         drop(spare.rest);
         let window = self.window.copy_over(spare.window)?;
-        let confirmations = refilled(spare.confirmations, &self.confirmations);
-        let answers = refilled(spare.answers, &self.answers);
+        let confirmations = refill(spare.confirmations, &self.confirmations);
+        let answers = refill(spare.answers, &self.answers);
         let rest = self.rest.copy()?;
         Ok(Station {
             window,
@@ -152,10 +152,10 @@ impl Station {
     }
 
     /// How many I formats sent are not acknowledged.
-    pub fn unacknowledged(&self) -> usize
+    pub fn unacknowledged_count(&self) -> usize
         ensures { result ≡ length self.now.window.waiting }
     {
-        self.window.unacknowledged()
+        self.window.unacknowledged_count()
     }
 
     /// How many news of the session were dropped.

@@ -174,7 +174,7 @@ impl Effects {
     }
 
     /// What a fragment said, if one was accepted.
-    pub fn reported(&self) -> Option<Reported>
+    pub fn fragment(&self) -> Option<Reported>
         ensures { result ≡ self.now.told.reported }
     {
         self.reported
@@ -188,7 +188,7 @@ impl Effects {
     }
 
     /// By how many I formats fewer wait for their acknowledgement than before an APDU of their client.
-    pub fn acknowledged(&self) -> usize
+    pub fn acknowledged_count(&self) -> usize
         ensures { result ≡ self.now.told.acknowledged }
     {
         self.acknowledged
@@ -217,21 +217,21 @@ impl Effects {
     }
 
     /// The orders that ended.
-    pub fn ended(&self) -> &HeapCircularBuffer<OrderEnd>
+    pub fn order_ends(&self) -> &HeapCircularBuffer<OrderEnd>
         ensures { result.now.items ≡ self.now.told.ended }
     {
         &self.ended
     }
 
     /// The outstations whose request ended without an answer.
-    pub fn unanswered(&self) -> &HeapCircularBuffer<usize>
+    pub fn unanswered_outstations(&self) -> &HeapCircularBuffer<usize>
         ensures { result.now.items ≡ self.now.told.unanswered }
     {
         &self.unanswered
     }
 
     /// For each client how many news were dropped in its session, where that ended.
-    pub fn dropped(&self) -> [u64; CLIENTS as usize]
+    pub fn dropped_counts(&self) -> [u64; CLIENTS as usize]
         ensures { result ≡ self.now.told.dropped }
     {
         self.dropped

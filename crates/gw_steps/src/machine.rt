@@ -61,7 +61,7 @@ pub trait Machine: Sized + Drop {
         ensures outside { started_at (slice_get (seen self.now).state.clients client) ≡ false → result ≡ 0 };
 
     /// How many I formats sent to a client are not acknowledged; 0 where there is no such client.
-    fn unacknowledged(&self, client: u8) -> usize
+    fn unacknowledged_count(&self, client: u8) -> usize
         ensures { result ≡ unacknowledged_at (slice_get (seen self.now).state.clients client) };
 
     /// How many observations were news since it began.

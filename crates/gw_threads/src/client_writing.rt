@@ -83,7 +83,7 @@ pub fn client_turn<L: Course, S: Calls<L>, R: Wait, W: Outgoing, C: Clock, G: Ga
     ensures end { IfSome result MayEndWriting }
     ensures failed { W.has_failed writer.new ≡ (is_write_fault result || W.has_failed writer.old) }
 {
-    let rung = source.rung();
+    let rung = source.ring_count();
     let put = put_run(source, writer, batch);
     settle(source, &put, rung);
     put.end()

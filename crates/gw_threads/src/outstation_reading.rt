@@ -197,7 +197,7 @@ impl<
             Arrival::Octets(count) => {
                 self.hear_octets();
                 match self.take(feed, receiver, &buffer[..count]) {
-                    None => self.unanswered(),
+                    None => self.end_without_answers(),
                     end => end,
                 }
             }
@@ -208,7 +208,7 @@ impl<
 
     /// An outstation of which nothing was taken for too long is lost, whatever else it sends: so its points don't stay
     /// topical while only its link, or another station on its line, is alive.
-    fn unanswered(&self) -> Option<WorkerEnd>
+    fn end_without_answers(&self) -> Option<WorkerEnd>
         ensures { IfSome result (λ end. end ≡ WorkerEnd.Unanswered) }
     {
         let waited = self.clock.moment().saturating_sub(self.heard);

@@ -133,7 +133,7 @@ impl<
         ensures end { IfSome result MayEndWriting }
     {
         // Read before all that a ring may tell of.
-        let rung = self.rung();
+        let rung = self.ring_count();
         if self.shared.stopping() {
             return Some(WorkerEnd::Stopping);
         }
@@ -187,7 +187,7 @@ impl<
     }
 
     /// How often the outstation's bell was rung.
-    pub fn rung(&self) -> u64 {
+    pub fn ring_count(&self) -> u64 {
         match self.shared.outstation_bell(self.outstation) {
             Some(bell) => bell.rung(),
             None => 0,

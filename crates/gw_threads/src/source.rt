@@ -74,7 +74,7 @@ impl<'a, L: Course, S: Calls<L>, R: Wait, C: Clock, G: Gate> ClientWriter<'a, L,
     }
 
     /// How often the client's bell was rung.
-    pub fn rung(&self) -> u64 {
+    pub fn ring_count(&self) -> u64 {
         match self.shared.client_bell(self.client) {
             Some(bell) => bell.rung(),
             None => 0,

@@ -60,7 +60,7 @@ fn nearest(number: i32, scale: Scale) -> (i16, bool)
     ensures overflow { result.1
         ≡ not (int_eq (nearest_scaled_value (scaled_by scale number)) (scaled_by scale number)) }
 {
-    let scaled = scale.scaled(number);
+    let scaled = scale.apply(number);
     let nearest = clamp(scaled);
     (nearest, i64::from(nearest) != scaled)
 }

@@ -73,7 +73,7 @@ impl ApduFeed {
         if let Some(fault) = self.fault {
             return Some(Err(fault));
         }
-        let answer = apdu_at(self.octets.left())?;
+        let answer = apdu_at(self.octets.rest())?;
         match &answer {
             Ok(apdu) => self.octets.use_up(size_of(apdu)),
             Err(fault) => {

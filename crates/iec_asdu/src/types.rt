@@ -130,7 +130,7 @@ impl MonitorType {
         }
     }
 
-    fn timed(element: ElementKind) -> MonitorType
+    fn with_tag(element: ElementKind) -> MonitorType
         ensures { result ≡ record { element = element; timed = true } }
     {
         MonitorType {
@@ -150,11 +150,11 @@ impl MonitorType {
             M_BO_NA_1 => MonitorType::plain(ElementKind::BitString),
             M_ME_NB_1 => MonitorType::plain(ElementKind::ScaledValue),
             M_IT_NA_1 => MonitorType::plain(ElementKind::CounterReading),
-            M_SP_TB_1 => MonitorType::timed(ElementKind::SinglePoint),
-            M_DP_TB_1 => MonitorType::timed(ElementKind::DoublePoint),
-            M_BO_TB_1 => MonitorType::timed(ElementKind::BitString),
-            M_ME_TE_1 => MonitorType::timed(ElementKind::ScaledValue),
-            M_IT_TB_1 => MonitorType::timed(ElementKind::CounterReading),
+            M_SP_TB_1 => MonitorType::with_tag(ElementKind::SinglePoint),
+            M_DP_TB_1 => MonitorType::with_tag(ElementKind::DoublePoint),
+            M_BO_TB_1 => MonitorType::with_tag(ElementKind::BitString),
+            M_ME_TE_1 => MonitorType::with_tag(ElementKind::ScaledValue),
+            M_IT_TB_1 => MonitorType::with_tag(ElementKind::CounterReading),
             _ => return None,
         })
     }

@@ -122,11 +122,11 @@ impl Window {
         self.owed = 0;
         self.owed_since = None;
         self.test = None;
-        self.heard(moment);
+        self.hear(moment);
     }
 
     /// A frame came that has no number: a U format other than a TESTFR con. t3 runs anew.
-    pub fn heard(&mut self, moment: u64)
+    pub fn hear(&mut self, moment: u64)
         ensures { self.new ≡ counts_after_frame moment self.old }
     {
         self.last_heard = moment;
@@ -208,11 +208,11 @@ impl Window {
         let others = self.waiting.len() - count as usize;
         self.waiting.truncate_front(others);
         self.acknowledged += count;
-        self.heard(moment);
+        self.hear(moment);
     }
 
     /// How many I formats sent are not acknowledged.
-    pub fn unacknowledged(&self) -> usize
+    pub fn unacknowledged_count(&self) -> usize
         ensures { result ≡ length self.now.waiting }
     {
         self.waiting.len()
@@ -274,7 +274,7 @@ impl Window {
         ensures { self.new ≡ counts_after_confirmation moment self.old }
     {
         self.test = None; // Its t1 ends.
-        self.heard(moment);
+        self.hear(moment);
     }
 
     /// Whether t1 has passed since the oldest I format that isn't acknowledged, or the TESTFR act that isn't

@@ -242,11 +242,9 @@ impl JournalEvent {
     /// How much it matters.
     pub fn priority(&self) -> Priority {
         match self {
-            JournalEvent::OutstationLost { loss, .. } if loss.cause.is_own() =>
-                Priority::Information,
-            JournalEvent::ClientLost { loss, .. } if loss.cause.is_own() => Priority::Information,
-            JournalEvent::OutstationLost { .. }
-            | JournalEvent::OutstationUnreachable { .. }
+            JournalEvent::OutstationLost { loss, .. } => loss_priority(loss, Priority::Error),
+            JournalEvent::ClientLost { loss, .. } => loss_priority(loss, Priority::Warning),
+            JournalEvent::OutstationUnreachable { .. }
             | JournalEvent::NotAccepted(_)
             | JournalEvent::ControlsLeftOut(_) => Priority::Error,
             JournalEvent::Command { command, what, .. } => what.priority(command),
@@ -270,7 +268,6 @@ impl JournalEvent {
             | JournalEvent::LinkStatusUnanswered { .. }
             | JournalEvent::FramesStrayed { .. }
             | JournalEvent::ObjectsPassedOver { .. }
-            | JournalEvent::ClientLost { .. }
             | JournalEvent::NewsDropped { .. }
             | JournalEvent::UnknownTypes { .. }
             | JournalEvent::AllPlacesTaken { .. }
@@ -299,6 +296,34 @@ impl JournalEvent {
             | JournalEvent::FramesStrayed { outstation, .. }
             | JournalEvent::ObjectsPassedOver { outstation, .. }
             | JournalEvent::Order { outstation, .. } => Subject::Outstation(*outstation),
+            JournalEvent::ClientConnected { .. }
+            | JournalEvent::TransferStarted { .. }
+            | JournalEvent::TransferStopped { .. }
+            | JournalEvent::ClientLost { .. }
+            | JournalEvent::NewsDropped { .. }
+            | JournalEvent::UnknownTypes { .. }
+            | JournalEvent::Command { .. } => self.client_subject(),
+            JournalEvent::Started { .. }
+            | JournalEvent::Doubtful(_)
+            | JournalEvent::Listening(_)
+            | JournalEvent::AllPlacesTaken { .. }
+            | JournalEvent::PlaceFree
+            | JournalEvent::NotAllowed { .. }
+            | JournalEvent::NotAccepted(_)
+            | JournalEvent::RecordingEnded(_)
+            | JournalEvent::EventsHindered(_)
+            | JournalEvent::EventsResumed
+            | JournalEvent::EventsLeftOut(_)
+            | JournalEvent::HostStoodStill { .. }
+            | JournalEvent::LeftOut(_)
+            | JournalEvent::ControlsLeftOut(_)
+            | JournalEvent::Stopped => Subject::Gateway,
+        }
+    }
+
+    /// The client that it is of, where it is of one.
+    fn client_subject(&self) -> Subject {
+        match self {
             JournalEvent::ClientConnected { client, address }
             | JournalEvent::TransferStarted { client, address }
             | JournalEvent::TransferStopped { client, address }
@@ -346,5 +371,14 @@ impl JournalEvent {
             JournalEvent::Command { .. } | JournalEvent::Order { .. } => true,
             _ => false,
         }
+    }
+}
+
+/// How much the end of a connection matters: as much as this, unless the gateway itself ended it.
+fn loss_priority(loss: &Loss, priority: Priority) -> Priority {
+    if loss.cause.is_own() {
+        Priority::Information
+    } else {
+        priority
     }
 }

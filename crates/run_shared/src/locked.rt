@@ -158,7 +158,7 @@ impl<L: Course, M: Machine> Core<L, M> {
         ensures { self.new ≡ self.old }
     {
         self.pacing.settle(kind, moment, reply, pass.effects());
-        self.awake_writers.told(kind, reply);
+        self.awake_writers.note_step(kind, reply);
         match reply {
             Ok(_) => self.awake_writers.wake(WakeSet::by(pass.effects())),
             Err(_) => WakeSet::nobody(),

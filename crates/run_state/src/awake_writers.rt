@@ -19,7 +19,7 @@ impl AwakeWriters {
     }
 
     /// A writer that is told of no APDU may sleep now.
-    pub fn told(&mut self, kind: StepKind, reply: &Result<Reply, StepFault>) {
+    pub fn note_step(&mut self, kind: StepKind, reply: &Result<Reply, StepFault>) {
         match (kind, reply) {
             (StepKind::Pump(_), Ok(Reply::Apdu(_))) => {}
             (StepKind::Pump(client), _) => self.writers = self.writers.without_client(client),

@@ -29,7 +29,7 @@ impl Figures {
         let mut unacknowledged = [0; 8];
         for client in 0..CLIENTS {
             queued[usize::from(client)] = machine.queued(client);
-            unacknowledged[usize::from(client)] = machine.unacknowledged(client);
+            unacknowledged[usize::from(client)] = machine.unacknowledged_count(client);
         }
         Figures {
             calls,

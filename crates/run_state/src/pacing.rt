@@ -74,7 +74,7 @@ impl Pacing {
     ) {
         match kind {
             StepKind::Frame(client) => {
-                if matches!(reply, Ok(Reply::Taken)) && effects.acknowledged() > 0 {
+                if matches!(reply, Ok(Reply::Taken)) && effects.acknowledged_count() > 0 {
                     self.note(client, moment);
                 }
             }
@@ -117,7 +117,7 @@ impl Pacing {
         let Some(service) = self.services.get_mut(usize::from(outstation)) else {
             return;
         };
-        match (reply, effects.reported()) {
+        match (reply, effects.fragment()) {
             (Ok(Reply::Verdict(Verdict::Accepted { end, .. })), Some(reported)) => {
                 let is_due = !effects.due_outstations().is_empty();
                 service.accept(reported, moment, effects.news(), *end, is_due);

@@ -43,10 +43,10 @@ impl Tally {
         if let Some(order) = order_accepted(effects) {
             self.accept(order, machine);
         }
-        for end in effects.ended() {
+        for end in effects.order_ends() {
             self.end(end);
         }
-        let dropped = effects.dropped();
+        let dropped = effects.dropped_counts();
         for (count, dropped) in self.dropped.iter_mut().zip(&dropped) {
             *count = count.saturating_add(*dropped);
         }

@@ -171,7 +171,7 @@ fn tell_reply<R: Wait, C: Clock>(
 ) {
     match (kind, reply) {
         (StepKind::Fragment(outstation), Reply::Verdict(Verdict::Accepted { end, .. })) => {
-            if let Some(reported) = effects.reported() {
+            if let Some(reported) = effects.fragment() {
                 note_response(reporter, number, outstation, &reported, *end);
             }
         }
@@ -200,13 +200,13 @@ fn tell_effects<R: Wait, C: Clock>(
     kind: StepKind,
     effects: &Effects,
 ) {
-    for outstation in effects.unanswered().iter() {
+    for outstation in effects.unanswered_outstations().iter() {
         note_timeout(reporter, number, *outstation);
     }
     if let StepKind::Frame(client) = kind {
         note_refusal(reporter, number, client, effects);
     }
-    for end in effects.ended().iter() {
+    for end in effects.order_ends().iter() {
         tell_end(reporter, number, end);
     }
 }

@@ -229,7 +229,7 @@ impl<'a, 'b, L: Course, S: Calls<L>, R: Wait, G: Gate> CentrePart<'a, 'b, L, S, 
             return;
         }
         let hold = self.scene.scenario.of(Number::HoldMs);
-        let (awaits, rings) = (self.writer.awaits(), self.writer.rung());
+        let (awaits, rings) = (self.writer.awaits(), self.writer.ring_count());
         if !self
             .duty
             .goes_on(now, awaits, rings, &mut self.random, hold)
@@ -281,7 +281,7 @@ impl<'a, 'b, L: Course, S: Calls<L>, R: Wait, G: Gate> Part for CentrePart<'a, '
         }
         if self.connection.is_written && !self.is_blocked() {
             let awaits = self.writer.awaits();
-            due = due.min(self.duty.due(awaits, self.writer.rung()));
+            due = due.min(self.duty.due(awaits, self.writer.ring_count()));
         }
         due.min(self.reader_due())
     }

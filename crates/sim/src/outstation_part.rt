@@ -349,7 +349,7 @@ impl<'a, 'b, 'c, L: Course, N: LineCourse, S: Calls<L>, R: Wait, G: Gate> Outsta
             return;
         }
         let hold = self.scene.scenario.of(Number::HoldMs);
-        let (awaits, rings) = (self.writer.awaits, self.writer.rung());
+        let (awaits, rings) = (self.writer.awaits, self.writer.ring_count());
         if !self
             .duty
             .goes_on(now, awaits, rings, &mut self.random, hold)
@@ -414,7 +414,7 @@ impl<'a, 'b, 'c, L: Course, N: LineCourse, S: Calls<L>, R: Wait, G: Gate> Part
             due = due.min(connection.next);
         }
         if connection.is_written {
-            due = due.min(self.duty.due(self.writer.awaits, self.writer.rung()));
+            due = due.min(self.duty.due(self.writer.awaits, self.writer.ring_count()));
         }
         due.min(self.reader_due())
     }

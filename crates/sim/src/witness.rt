@@ -30,7 +30,7 @@ impl<'a> Witness<'a> {
     /// A client's APDU was taken, or closed its connection.
     fn frame(&self, client: u8, reply: &Result<Reply, StepFault>, effects: &Effects) {
         let client = u64::from(client);
-        let acknowledged = effects.acknowledged() as u64;
+        let acknowledged = effects.acknowledged_count() as u64;
         if let Ok(Reply::Taken) = reply {
             let signal = match effects.apdu() {
                 Some(ApduKind::UFormat(signal)) => u64::from(signal as u8),
@@ -61,7 +61,7 @@ impl<'a> Witness<'a> {
 
     /// A fragment was judged.
     fn fragment(&self, outstation: u8, reply: &Result<Reply, StepFault>, effects: &Effects) {
-        if let Some(reported) = effects.reported() {
+        if let Some(reported) = effects.fragment() {
             let answers = u64::from(reported.answers.is_some());
             let observations = reported.observations as u64;
             let ends = matches!(
@@ -122,13 +122,13 @@ impl<'a> Observer for Witness<'a> {
             StepKind::Tick => self.tick(reply),
             _ => {}
         }
-        for outstation in effects.unanswered() {
+        for outstation in effects.unanswered_outstations() {
             self.log.add("unanswered", &[*outstation as u64]);
         }
-        for end in effects.ended() {
+        for end in effects.order_ends() {
             self.end(end);
         }
-        for (client, dropped) in effects.dropped().iter().enumerate() {
+        for (client, dropped) in effects.dropped_counts().iter().enumerate() {
             if *dropped > 0 {
                 self.log.add("dropped", &[client as u64, *dropped]);
             }

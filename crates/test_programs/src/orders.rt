@@ -253,7 +253,7 @@ fn make<L: Course, R: Wait + Abort + AllocGlobal>(
     let (_number, reply) = core.step(rt, 0, step_of(rt, line)).expect(rt, "a pass");
     assert!(rt; reply.is_ok(), "{line}");
     let pass = core.passes.get_mut(0).expect(rt, "a pass");
-    for end in pass.effects().ended().iter() {
+    for end in pass.effects().order_ends().iter() {
         ended.push(Ended::of(end)).expect(rt, "memory");
     }
 }

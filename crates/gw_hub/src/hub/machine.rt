@@ -134,8 +134,8 @@ impl Machine for Hub {
         self.clients.dropped(client)
     }
 
-    fn unacknowledged(&self, client: u8) -> usize {
-        self.clients.unacknowledged(client)
+    fn unacknowledged_count(&self, client: u8) -> usize {
+        self.clients.unacknowledged_count(client)
     }
 
     fn news(&self) -> u64 {

@@ -42,7 +42,7 @@ impl Hub {
     }
 
     /// Whether an outstation is up, or why it isn't.
-    pub(super) fn reached(&self, outstation: u8) -> Result<(), StepFault>
+    pub(super) fn check_outstation(&self, outstation: u8) -> Result<(), StepFault>
         ensures { result ≡ unless (fault_unless_up NoOutstation (outstation_up self.now.state outstation)) }
     {
         match self.outstations.get(outstation) {
@@ -58,7 +58,7 @@ impl Hub {
     }
 
     /// Whether a client is up, or why it isn't.
-    pub(super) fn connected(&self, client: u8) -> Result<(), StepFault>
+    pub(super) fn check_client(&self, client: u8) -> Result<(), StepFault>
         ensures { result ≡ unless (fault_unless_up NoClient (client_up self.now.state client)) }
     {
         match self.clients.presence(client) {

@@ -83,7 +83,7 @@ impl Hub {
         ensures { result ≡ waiting_for self.now.state step.now }
     {
         match step {
-            Step::Frame { client, .. } => self.clients.unacknowledged(*client),
+            Step::Frame { client, .. } => self.clients.unacknowledged_count(*client),
             _ => 0,
         }
     }
@@ -135,7 +135,7 @@ impl Hub {
             }
             Step::Fragment { response, .. } => {
                 let outstation = response.outstation();
-                let is_due = effects.reported().is_some() && self.is_poll_due(outstation);
+                let is_due = effects.fragment().is_some() && self.is_poll_due(outstation);
                 rouse_where(is_due, outstation, effects);
             }
             Step::Frame { .. } => {
@@ -339,7 +339,7 @@ fn brings(step: &Step, effects: &Effects) -> bool
     ensures { result ≡ brings step.now effects.now.told }
 {
     match step {
-        Step::Fragment { .. } => effects.reported().is_some(),
+        Step::Fragment { .. } => effects.fragment().is_some(),
         Step::Poll { .. } | Step::Pump { .. } => false,
         _ => true,
     }

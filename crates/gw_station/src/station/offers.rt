@@ -17,11 +17,11 @@ impl Station {
     pub fn has_offer(&self, moment: u64, news: &NewsRing) -> bool
         ensures { result ≡ (is_up self.now.stage && is_some (offered moment (seen news.now self.now))) }
     {
-        self.is_up() && self.offered(moment, news).is_some()
+        self.is_up() && self.next_sending(moment, news).is_some()
     }
 
     /// What is put out next at a moment, if anything.
-    pub(super) fn offered(&self, moment: u64, news: &NewsRing) -> Option<Sending>
+    pub(super) fn next_sending(&self, moment: u64, news: &NewsRing) -> Option<Sending>
         ensures sending { result ≡ offered moment (seen news.now self.now) }
         ensures room { IfSome result (IsRoomy self.now.window) }
         ensures next { IfSome result (IsNext (seen news.now self.now)) }

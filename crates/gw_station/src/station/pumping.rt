@@ -1,5 +1,6 @@
 //! What a client's station puts out.
-ghost use Rattle.std.specs.Prelude.{◌≡◌, ◌<◌, ◌≤◌, ◌+◌, ◌^◌, None, Some, [], ◌++◌, drop, length, option_map, slice_get};
+ghost use Rattle.std.specs.Prelude.{◌≡◌, ◌<◌, ◌≤◌, ◌+◌, ◌^◌, None, Some, [], ◌++◌};
+ghost use Rattle.std.specs.Prelude.{drop, length, option_map, slice_get};
 ghost use Rattle.iec_apci.specs.Apdu.{Information};
 ghost use Rattle.iec_apci.specs.Buffer.{buffer_of};
 ghost use Rattle.iec_window.specs.Counts.{sent_in_all};
@@ -39,7 +40,7 @@ impl Station {
             ≡ client_after_pump (station_clocks settings.now.station) moment (seen news.now self.old) }
         ensures stands { Stands news.now self.new }
     {
-        let sending = self.offered(moment, news)?;
+        let sending = self.next_sending(moment, news)?;
         Some(self.send(sending, settings, moment, news))
     }
 

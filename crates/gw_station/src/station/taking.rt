@@ -1,6 +1,6 @@
 //! What a client's APDUs do to its station.
-ghost use Rattle.std.specs.Prelude.{◌≡◌, ◌<◌, ◌+◌, ◌^◌, true, false, None, Some, [], ◌∷◌, ◌++◌, ◌&&◌, is_some, length};
-ghost use Rattle.std.specs.Prelude.{nat_le, IfOk, OnErr, OnOk};
+ghost use Rattle.std.specs.Prelude.{◌≡◌, ◌<◌, ◌+◌, ◌^◌, true, false, None, Some, [], ◌∷◌, ◌++◌, ◌&&◌};
+ghost use Rattle.std.specs.Prelude.{is_some, length, nat_le, IfOk, OnErr, OnOk};
 ghost use Rattle.std.specs.List.{AllByRecursion};
 ghost use Rattle.gw_answers.specs.declared.outgoing.AsduAnswer.TheVariants.{Made};
 ghost use Rattle.gw_station.specs.Answers.{client_judging, client_told, is_asking, is_pending, places, CanBeTold};
@@ -26,8 +26,8 @@ use crate::rest::PartsLeft;
 use crate::ring::NewsRing;
 use crate::station::{MOST_ANSWERS, MOST_CONFIRMATIONS, Station};
 use gw_answers::{
-    AsduAnswer, OwnAsdu, answered, command_by, command_with, confirmed, is_accepted_act,
-    places_for, sections_of,
+    AsduAnswer, OwnAsdu, answer_at_once, command_by, command_with, confirmation_of,
+    is_accepted_act, places_for, sections_of,
 };
 use gw_judge::{Judged, judge};
 use gw_map::Settings;
@@ -150,11 +150,11 @@ impl Station {
     {
         self.held = said.held_with(self.held);
         match said {
-            Said::Confirm => self.push_answer(confirmed(false, command)),
-            Said::Negative | Said::Failed => self.push_answer(confirmed(true, command)),
+            Said::Confirm => self.push_answer(confirmation_of(false, command)),
+            Said::Negative | Said::Failed => self.push_answer(confirmation_of(true, command)),
             Said::Ordered => {}
             Said::Done => {
-                self.push_answer(confirmed(false, command));
+                self.push_answer(confirmation_of(false, command));
                 self.push_answer(command_with(ACTIVATION_TERMINATION, false, command));
             }
         }
@@ -270,7 +270,7 @@ impl Station {
                 return Ok(());
             }
         }
-        if let Some(answer) = answered(settings, picture, pending, asdu, judged) {
+        if let Some(answer) = answer_at_once(settings, picture, pending, asdu, judged) {
             push(&mut self.answers, answer);
         }
         Ok(())
@@ -299,7 +299,7 @@ impl Station {
         self.begin_or_end(signal, news);
         match signal {
             Signal::TestCon => self.window.test_confirmed(moment),
-            _ => self.window.heard(moment),
+            _ => self.window.hear(moment),
         }
         if let Some(confirmation) = signal.confirmation() {
             push(&mut self.confirmations, confirmation);

@@ -20,7 +20,7 @@ pub returns-in-Some : goal.returns-in-Some
 returns-in-Some c =
     let ms = table_view c.args.table.now in
     rw (table_parts, ← c.count_of.ensures, c.in_ok-check.ensures)
-    (tells_wrong c.mismatched.result _ _ _ _ c.mismatched.ensures
+    (tells_wrong c.mismatch_fault.result _ _ _ _ c.mismatch_fault.ensures
     (control_mismatch ms _ _ (control_show_read ms _ c.word-show.ensures) (sym c.in-Some.ensures)))
 
 pub overflow_cast-outstation : goal.overflow_cast-outstation

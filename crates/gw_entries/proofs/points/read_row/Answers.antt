@@ -21,7 +21,7 @@ returns-in-Some c =
     let ms = table_view c.args.table.now in
     let kind = kind_read ms _ c.word-kind.ensures in
     rw (table_parts, ← c.count_of.ensures, c.in_ok-check.ensures)
-    (tells_wrong c.mismatched.result _ _ _ _ c.mismatched.ensures
+    (tells_wrong c.mismatch_fault.result _ _ _ _ c.mismatch_fault.ensures
     (point_mismatch ms _ _ _ kind (show_read ms _ _ _ c.word-show.ensures c.usual_show.ensures kind)
     (sym c.in-Some.ensures)))
 

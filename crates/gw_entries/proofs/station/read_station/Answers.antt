@@ -19,7 +19,7 @@ within c = station_within 0 _ _ c.in_ok-check.ensures (rw (← c.rule.ensures.va
 seen : (c : goal.In_ok-from_str-2) → station_seen record {
   common_address = c.number_u16.result;
   master_address = c.number_u16-2.result;
-  offset_minutes = to_z w16 (of_z w16 (to_z w64 (of_z w64 c.signed.result)));
+  offset_minutes = to_z w16 (of_z w16 (to_z w64 (of_z w64 c.integer.result)));
   rule = c.rule.result;
   k = c.number_u16-3.result;
   w = c.number_u16-4.result;
@@ -38,7 +38,7 @@ seen c =
     λ i. record {
       common_address = fits_min _ _ _ _ c.number_u16.ensures s.common_address.1 (lit≤ tt) i;
       master_address = fits_min _ _ _ _ c.number_u16-2.ensures s.master_address (lit≤ tt) i;
-      offset_minutes = minutes_fit _ _ c.signed.ensures (s.offset_from, s.offset_to) i;
+      offset_minutes = minutes_fit _ _ c.integer.ensures (s.offset_from, s.offset_to) i;
       rule = c.rule.ensures.value i;
       k = fits_min _ _ _ _ c.number_u16-3.ensures s.k.1 (lit≤ tt) i;
       w = fits_min _ _ _ _ c.number_u16-4.ensures (up_to _ _ _ s.w.1 s.k.1) (lit≤ tt) i;
@@ -58,7 +58,7 @@ returns-in_err-check c =
     rw (p.1, p.2, table_parts) (told_front _ _ _ c.in_err-check.ensures)
 
 pub overflow_cast-result : goal.overflow_cast-result
-overflow_cast-result c = minutes_cast _ _ c.signed.ensures (minutes_within 0 _ _ c.in_ok-check.ensures)
+overflow_cast-result c = minutes_cast _ _ c.integer.ensures (minutes_within 0 _ _ c.in_ok-check.ensures)
 
 pub invariant_of-result : goal.invariant_of-result
 invariant_of-result c = subst IsStation (sym (seen c)) (within c)

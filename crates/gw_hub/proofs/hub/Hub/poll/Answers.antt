@@ -32,7 +32,7 @@ returns-clause-step c =
     let counted = c.in_ok-count.ensures.ok.1 in
     let taken = ap (λ (h : Hub). h.state) c.self.view_is ∙ c.take_order-order.ensures.state in
     let fault : fault_of old.state (steps.Poll c.args.outstation c.args.moment c.args.wall) ≡ None =
-    search (rules, c.in_ok-reached.ensures) in (
+    search (rules, c.in_ok-check_outstation.ensures) in (
       poll_answer old.setup old.state c.count.new.self.state _ c.args.outstation c.args.moment c.args.wall
           c.take_order-order.result c.poll.result counted c.take_order-order.ensures.order taken fault
           c.in_ok-count.ensures.ok.0 c.poll.ensures.reply,

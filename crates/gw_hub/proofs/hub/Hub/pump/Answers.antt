@@ -63,7 +63,7 @@ returns-clause-step c =
     ≡ reply_to_pump old.setup (latest old.state c.args.moment) (slice_get old.state.clients c.args.client) =
     c.pump.ensures.reply ∙ same_reply c.args.client _ _ _ _ _ _ (c.get.ensures ∙ setup) moment clients in
     let fault : fault_of old.state (steps.Pump c.args.client c.args.moment) ≡ None =
-    search (rules, c.in_ok-connected.ensures) in (
+    search (rules, c.in_ok-check_client.ensures) in (
       answered_so old.setup old.state c.args.client c.args.moment c.pump.result fault c.in_ok-count.ensures.ok.0 reply,
       search (rules, clients, moment, state),
     )

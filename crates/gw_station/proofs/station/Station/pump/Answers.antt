@@ -5,4 +5,8 @@ use Rattle.gw_station.proofs.station.Station.pump.Goals as goal
 
 pub send-requires-clause-answer : goal.send-requires-clause-answer
 send-requires-clause-answer c =
-    search (rules, offered_returnable c.args.moment (seen c.args.news.now c.args.self.now) c.offered.ensures.answers)
+    search (
+      rules,
+      offered_returnable c.args.moment (seen c.args.news.now c.args.self.now)
+          c.next_sending.ensures.answers,
+    )

@@ -16,7 +16,7 @@ invariant_of-self-in-Some c =
     let count = ap length more ∙ length-append waiting (c.in-Some.answer ∷ []) in
     let returnable = returnable_more c.args.settings.now c.args.picture.now c.is_pending-pending.result c.args.asdu.now
     c.args.judged.now c.in-Some.answer waiting c.push.new.queue.items
-    (sym c.requires.judged) (sym c.answered.ensures ∙ c.in-Some.is) more kept.4 in
+    (sym c.requires.judged) (sym c.answer_at_once.ensures ∙ c.in-Some.is) more kept.4 in
     search (rules, returnable, capacity, count)
 
 pub returns-then-is_accepted_act-clause-client : goal.returns-then-is_accepted_act-clause-client

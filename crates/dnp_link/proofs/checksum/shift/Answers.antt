@@ -2,7 +2,7 @@ use Rattle.std.proofs.Common.{ap, ◌∙◌, ◌/◌, get_or}
 use Rattle.std.specs.Prelude.{bit_and, bit_xor}
 use Rattle.dnp_link.specs.declared.table.TheConstants.{TABLE}
 use Rattle.dnp_link.proofs.Register.{register_step}
-use Rattle.dnp_link.proofs.checksum.shifted.Goals as goal
+use Rattle.dnp_link.proofs.checksum.shift.Goals as goal
 
 pub returns : goal.returns
 returns c before e =
