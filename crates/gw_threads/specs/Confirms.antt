@@ -71,7 +71,7 @@ pub record ReadsAll (setup : Setup) (outstation : ℕ) (mine after : Pass) (old 
 -- a reader went on so, from what it was to what it is
 abbrev pub ReadsFurther : {L N S R W C G K : Type 0} → Setup → OutstationReader L N S R W C G K
     → OutstationReader L N S R W C G K → Bool → Type 0
-ReadsFurther setup old new cut = ReadsAll setup old.outstation old.pass new.pass old.front new.front cut
+ReadsFurther setup old new cut = ReadsAll setup old.outstation old.worker.pass new.worker.pass old.front new.front cut
 
 -- and that is all that the worker sent since it joined the line
 abbrev pub ReadsOn : Setup → ℕ → Pass → Pass → Known Sending → Bool → Type 0

@@ -5,9 +5,8 @@ ghost use Rattle.run_ends.specs.Ends.{is_read_fault, IsOfSteps, MayEnd};
 ghost use Rattle.run_shared.specs.Turn.{Pass as Seen};
 ghost use Rattle.gw_threads.specs.Frames.{end_by, Asks, Frames, Loses, Reads, Takes, TakesAnswer};
 
-use crate::call::make_call;
 use crate::gate::{Gate, Place};
-use crate::lost::lose_client;
+use crate::worker::Worker;
 use iec_apci::{ApciFault, Apdu, ApduFeed};
 use run_clock::Clock;
 use run_ends::{Arrival, Incoming, WorkerEnd};
@@ -21,12 +20,8 @@ const PIECE: usize = 4096;
 /// The reader of a client.
 #[derive(Drop)]
 pub struct ClientReader<'a, L: Course, S: Calls<L>, R: Wait, C: Clock, G: Gate> {
-    pub rt: &'a R,
-    pub shared: &'a S,
-    pub pass: Pass<L>,
+    pub worker: Worker<'a, L, S, R, C, G>,
     pub client: u8,
-    pub clock: &'a C,
-    pub gate: &'a G,
 }
 
 /// Makes a step of each APDU that comes from a client, until its octets end or are none, the core closes the
@@ -50,19 +45,19 @@ pub fn client_reader<'a, L: Course, S: Calls<L>, R: Wait, I: Incoming, C: Clock,
     // It ended by a failed read exactly where one failed, unless one had before.
     ensures failed { I.has_failed input.new ≡ (is_read_fault (Some result.1) || I.has_failed input.old) }
 {
-    let mut reading = ClientReader {
+    let worker = Worker {
         rt,
         shared,
         pass,
-        client,
         clock,
         gate,
     };
+    let mut reading = ClientReader { worker, client };
     let mut feed = ApduFeed::new(alloc);
     let end = reading.read_on(&mut feed, input);
     reading.lose(end);
-    let ClientReader { pass, .. } = reading;
-    (pass, end)
+    let ClientReader { worker, .. } = reading;
+    (worker.pass, end)
 }
 
 impl<'a, L: Course, S: Calls<L>, R: Wait, C: Clock, G: Gate> ClientReader<'a, L, S, R, C, G> {
@@ -70,13 +65,13 @@ impl<'a, L: Course, S: Calls<L>, R: Wait, C: Clock, G: Gate> ClientReader<'a, L,
     fn read_on<I: Incoming>(&mut self, feed: &mut ApduFeed, input: &mut I) -> WorkerEnd
         requires drained { (reading_of_ending feed.old).apdus ≡ [] }
         ensures client { self.new.client ≡ self.old.client }
-        ensures reads { Reads L.setup self.old.client self.old.pass self.new.pass (I.given input.old) (I.given input.new)
+        ensures reads { Reads L.setup self.old.client self.old.worker.pass self.new.worker.pass (I.given input.old) (I.given input.new)
             feed.old feed.new (Some result) }
         ensures end { MayEnd result }
         ensures failed { I.has_failed input.new ≡ (is_read_fault (Some result) || I.has_failed input.old) }
     {
         let mut buffer = [0; PIECE];
-        'pieces: for _ in self.rt.forever() {
+        'pieces: for _ in self.worker.rt.forever() {
             if let Some(end) = self.turn(feed, input, &mut buffer) {
                 return end;
             }
@@ -94,7 +89,7 @@ impl<'a, L: Course, S: Calls<L>, R: Wait, C: Clock, G: Gate> ClientReader<'a, L,
     ) -> Option<WorkerEnd>
         requires drained { (reading_of_ending feed.old).apdus ≡ [] }
         ensures client { self.new.client ≡ self.old.client }
-        ensures reads { Reads L.setup self.old.client self.old.pass self.new.pass (I.given input.old) (I.given input.new)
+        ensures reads { Reads L.setup self.old.client self.old.worker.pass self.new.worker.pass (I.given input.old) (I.given input.new)
             feed.old feed.new result }
         ensures drained { IfNone result ((reading_of_ending feed.new).apdus ≡ []) }
         ensures end { IfSome result MayEnd }
@@ -104,7 +99,7 @@ impl<'a, L: Course, S: Calls<L>, R: Wait, C: Clock, G: Gate> ClientReader<'a, L,
         match arrival {
             Arrival::Octets(count) => self.take(feed, &buffer[..count]),
             Arrival::Later => {
-                if self.shared.stands(self.rt, self.client) {
+                if self.worker.shared.stands(self.worker.rt, self.client) {
                     None
                 } else {
                     Some(WorkerEnd::Stopping)
@@ -116,25 +111,18 @@ impl<'a, L: Course, S: Calls<L>, R: Wait, C: Clock, G: Gate> ClientReader<'a, L,
 
     /// Tells the core that the connection is lost, unless the core closed it: what follows the last turn.
     pub fn lose(&mut self, end: WorkerEnd)
-        ensures { Loses L.setup self.old.client self.old.pass self.new.pass end }
+        ensures { Loses L.setup self.old.client self.old.worker.pass self.new.worker.pass end }
     {
         if let WorkerEnd::Closed(_) = end {
             return;
         }
-        lose_client(
-            self.rt,
-            self.shared,
-            &mut self.pass,
-            self.client,
-            self.clock,
-            self.gate,
-        );
+        self.worker.lose_client(self.client);
     }
 
     /// Takes a piece: a step of each APDU that is whole then. How the worker ends, if it does.
     fn take(&mut self, feed: &mut ApduFeed, piece: &[u8]) -> Option<WorkerEnd>
         ensures client { self.new.client ≡ self.old.client }
-        ensures takes { Takes L.setup self.old.client self.old.pass self.new.pass
+        ensures takes { Takes L.setup self.old.client self.old.worker.pass self.new.worker.pass
             (ending_after_piece feed.old piece.now) feed.new result }
         ensures drained { IfNone result ((reading_of_ending feed.new).apdus ≡ []) }
         ensures end { IfSome result IsOfSteps }
@@ -153,7 +141,7 @@ impl<'a, L: Course, S: Calls<L>, R: Wait, C: Clock, G: Gate> ClientReader<'a, L,
     /// Takes an APDU, or the fault that was met. How the worker ends, if it does.
     fn take_answer(&mut self, answer: Result<Apdu, ApciFault>) -> Option<WorkerEnd>
         ensures client { self.new.client ≡ self.old.client }
-        ensures takes { TakesAnswer L.setup self.old.client self.old.pass self.new.pass answer result }
+        ensures takes { TakesAnswer L.setup self.old.client self.old.worker.pass self.new.worker.pass answer result }
         ensures end { IfSome result IsOfSteps }
     {
         match answer {
@@ -165,7 +153,7 @@ impl<'a, L: Course, S: Calls<L>, R: Wait, C: Clock, G: Gate> ClientReader<'a, L,
     /// Makes the step of an APDU. How the worker ends, if it does.
     fn step(&mut self, apdu: Apdu) -> Option<WorkerEnd>
         ensures client { self.new.client ≡ self.old.client }
-        ensures takes { TakesAnswer L.setup self.old.client self.old.pass self.new.pass (Ok apdu) result }
+        ensures takes { TakesAnswer L.setup self.old.client self.old.worker.pass self.new.worker.pass (Ok apdu) result }
         ensures end { IfSome result IsOfSteps }
     {
         let reply = self.ask(apdu);
@@ -175,17 +163,16 @@ impl<'a, L: Course, S: Calls<L>, R: Wait, C: Clock, G: Gate> ClientReader<'a, L,
     /// Makes the step of an APDU. Gives the reply.
     fn ask(&mut self, apdu: Apdu) -> Result<Reply, StepFault>
         ensures client { self.new.client ≡ self.old.client }
-        ensures asks { Asks L.setup self.old.client self.old.pass self.new.pass apdu result }
+        ensures asks { Asks L.setup self.old.client self.old.worker.pass self.new.worker.pass apdu result }
     {
-        let actor = self.pass.actor();
-        self.gate.at(actor, Place::Decoded);
+        self.worker.come_to(Place::Decoded);
         let step = Step::Frame {
             client: self.client,
             apdu,
-            moment: self.clock.moment(),
+            moment: self.worker.clock.moment(),
         };
-        let reply = make_call(self.rt, self.shared, &mut self.pass, step, self.gate);
-        self.gate.at(actor, Place::Stepped);
+        let reply = self.worker.make(step);
+        self.worker.come_to(Place::Stepped);
         reply
     }
 }

@@ -12,23 +12,21 @@ pub mod examples;
 mod gate;
 pub mod laws;
 mod link_check;
-mod lost;
 mod observer;
 mod outstation_reading;
 mod outstation_writing;
 pub mod reading_examples;
 pub mod reading_laws;
-mod source;
 mod standstill;
 mod ticking;
+mod worker;
 
 pub use awaited::Awaited;
 pub use call::make_call;
 pub use client_reading::{ClientReader, client_reader};
-pub use client_writing::{client_turn, client_writer};
+pub use client_writing::{ClientWriter, client_writer};
 pub use gate::{FrameHeader, Gate, OpenGate, Place};
 pub use link_check::LinkCheck;
-pub use lost::{lose_client, lose_outstation};
 pub use observer::Observer;
 pub use outstation_reading::{OutstationReader, Patience, outstation_reader};
 pub use outstation_writing::{OutstationWriter, outstation_writer};
@@ -43,6 +41,6 @@ pub use run_shared::{
     PumpRun, Pumped, Pumps, Recorder, Refusal, Reply, Reported, Shared, Step, StepFault, StepKind,
     Task, UnknownAsdu, Verdict, Why, open_course, order_accepted,
 };
-pub use source::ClientWriter;
 pub use standstill::Turns;
-pub use ticking::{clock, clock_turn, pause};
+pub use ticking::{clock, pause};
+pub use worker::Worker;

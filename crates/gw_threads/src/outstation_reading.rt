@@ -9,10 +9,9 @@ ghost use Rattle.gw_threads.specs.Sends.{TellsOutstationLoss};
 ghost use Rattle.gw_threads.specs.Confirms.{confirmation_in, Confirms, ReadsFurther, ReadsOn};
 ghost use Rattle.gw_threads.specs.Heard.{Hears, HearsFrames, HearsOctets, HearsOf, HearsPiece, IsDrained};
 
-use crate::call::make_call;
 use crate::gate::{FrameHeader, Gate, Place};
 use crate::link_check::{LinkCheck, Look};
-use crate::lost::lose_outstation;
+use crate::worker::Worker;
 use dnp_app::{AppFault, Response, read_response};
 use dnp_link::{Frame, LinkEvent, LinkFeed};
 use dnp_receive::Receiver;
@@ -57,16 +56,12 @@ pub struct OutstationReader<
     C: Clock,
     G: Gate,
 > {
+    pub worker: Worker<'a, L, S, R, C, G>,
     pub alloc: Global,
-    pub rt: &'a R,
-    pub shared: &'a S,
-    pub pass: Pass<L>,
     pub outstation: u8,
     pub line: &'b Line<W, N>,
     /// What of the line's history it has seen.
     pub front: Front<Sending, N>,
-    pub clock: &'a C,
-    pub gate: &'a G,
     pub patience: Patience,
     /// When a fragment was taken last, or the reader began, in milliseconds.
     pub heard: u64,
@@ -116,16 +111,19 @@ pub fn outstation_reader<
     ensures failed { I.has_failed input.new ≡ (is_read_fault (Some result.2) || I.has_failed input.old) }
 {
     let moment = clock.moment();
-    let mut reading = OutstationReader {
-        alloc,
+    let worker = Worker {
         rt,
         shared,
         pass,
+        clock,
+        gate,
+    };
+    let mut reading = OutstationReader {
+        worker,
+        alloc,
         outstation,
         line,
         front: line.join(rt),
-        clock,
-        gate,
         patience,
         heard: moment,
         link: Cell::new(LinkCheck::new(patience.for_status, moment)),
@@ -134,9 +132,9 @@ pub fn outstation_reader<
     let mut feed = LinkFeed::new(alloc);
     let mut receiver = receiver;
     let end = reading.read_on(&mut feed, &mut receiver, input);
-    lose_outstation(rt, shared, &mut reading.pass, outstation, clock, gate);
-    let OutstationReader { pass, front, .. } = reading;
-    (pass, front, end)
+    reading.worker.lose_outstation(outstation);
+    let OutstationReader { worker, front, .. } = reading;
+    (worker.pass, front, end)
 }
 
 impl<
@@ -160,13 +158,13 @@ impl<
         requires drained { IsDrained feed.old }
         ensures outstation { self.new.outstation ≡ self.old.outstation }
         ensures confirmed { ReadsFurther L.setup self.old self.new (is_write_fault (Some result)) }
-        ensures heard { HearsOctets L.setup self.old.outstation self.old.pass self.new.pass receiver.old receiver.new
+        ensures heard { HearsOctets L.setup self.old.outstation self.old.worker.pass self.new.worker.pass receiver.old receiver.new
             feed.old feed.new (I.given input.old) (I.given input.new) (Some result) }
         ensures end { MayEndBetween result }
         ensures failed { I.has_failed input.new ≡ (is_read_fault (Some result) || I.has_failed input.old) }
     {
         let mut buffer = [0; PIECE];
-        'pieces: for _ in self.rt.forever() {
+        'pieces: for _ in self.worker.rt.forever() {
             if let Some(end) = self.turn(feed, receiver, input, &mut buffer) {
                 return end;
             }
@@ -187,7 +185,7 @@ impl<
         requires drained { IsDrained feed.old }
         ensures outstation { self.new.outstation ≡ self.old.outstation }
         ensures confirmed { ReadsFurther L.setup self.old self.new (is_write_fault result) }
-        ensures heard { HearsOctets L.setup self.old.outstation self.old.pass self.new.pass receiver.old receiver.new
+        ensures heard { HearsOctets L.setup self.old.outstation self.old.worker.pass self.new.worker.pass receiver.old receiver.new
             feed.old feed.new (I.given input.old) (I.given input.new) result }
         ensures end { IfSome result MayEndBetween }
         ensures failed { I.has_failed input.new ≡ (is_read_fault result || I.has_failed input.old) }
@@ -211,7 +209,7 @@ impl<
     fn end_without_answers(&self) -> Option<WorkerEnd>
         ensures { IfSome result (λ end. end ≡ WorkerEnd.Unanswered) }
     {
-        let waited = self.clock.moment().saturating_sub(self.heard);
+        let waited = self.worker.clock.moment().saturating_sub(self.heard);
         if waited >= self.patience.for_answers {
             Some(WorkerEnd::Unanswered)
         } else {
@@ -222,7 +220,7 @@ impl<
     /// The outstation isn't silent.
     fn hear_octets(&self) {
         let mut link = self.link.get();
-        link.hear(self.clock.moment());
+        link.hear(self.worker.clock.moment());
         self.link.set(link);
     }
 
@@ -239,18 +237,18 @@ impl<
     #[tactic(auto, using(crate::proofs::Confirming::reads_none))]
     fn look(&mut self) -> Option<WorkerEnd>
         ensures outstation { self.new.outstation ≡ self.old.outstation }
-        ensures pass { self.new.pass ≡ self.old.pass }
+        ensures pass { self.new.worker.pass ≡ self.old.worker.pass }
         ensures confirmed { ReadsFurther L.setup self.old self.new (is_write_fault result) }
         ensures end { IfSome result IsOfSilence }
     {
         let mut link = self.link.get();
-        let look = link.look(self.clock.moment());
+        let look = link.look(self.worker.clock.moment());
         self.link.set(link);
         match look {
             Look::Wait => None,
             Look::Ask => self.ask_status(),
             Look::Tell => {
-                self.gate.status_unanswered(self.outstation);
+                self.worker.gate.status_unanswered(self.outstation);
                 None
             }
             Look::Lose => Some(WorkerEnd::LinkUnanswered),
@@ -260,12 +258,12 @@ impl<
     /// Asks for the status of the link. How the worker ends, if it does.
     fn ask_status(&mut self) -> Option<WorkerEnd>
         ensures outstation { self.new.outstation ≡ self.old.outstation }
-        ensures pass { self.new.pass ≡ self.old.pass }
+        ensures pass { self.new.worker.pass ≡ self.old.worker.pass }
         ensures confirmed { ReadsFurther L.setup self.old self.new (is_write_fault result) }
         ensures end { IfSome result IsOfSilence }
     {
-        self.gate.at(self.pass.actor(), Place::BeforeWrite);
-        match self.line.ask_status(self.rt, &mut self.front) {
+        self.worker.come_to(Place::BeforeWrite);
+        match self.line.ask_status(self.worker.rt, &mut self.front) {
             Ok(()) => None,
             Err(_) => Some(WorkerEnd::WriteFault),
         }
@@ -280,7 +278,7 @@ impl<
     ) -> Option<WorkerEnd>
         ensures outstation { self.new.outstation ≡ self.old.outstation }
         ensures confirmed { ReadsFurther L.setup self.old self.new (is_write_fault result) }
-        ensures heard { HearsPiece L.setup self.old.outstation self.old.pass self.new.pass receiver.old receiver.new
+        ensures heard { HearsPiece L.setup self.old.outstation self.old.worker.pass self.new.worker.pass receiver.old receiver.new
             (feed.old ++ piece.now) feed.new result }
         ensures end { IfSome result IsOfFrames }
     {
@@ -299,7 +297,7 @@ impl<
             }
         }
         if skipped > 0 {
-            self.gate.skipped(self.outstation, skipped);
+            self.worker.gate.skipped(self.outstation, skipped);
         }
         None
     }
@@ -310,7 +308,7 @@ impl<
     fn take_frame(&mut self, receiver: &mut Receiver, frame: &Frame) -> Option<WorkerEnd>
         ensures outstation { self.new.outstation ≡ self.old.outstation }
         ensures confirmed { ReadsFurther L.setup self.old self.new (is_write_fault result) }
-        ensures heard { HearsFrames L.setup self.old.outstation self.old.pass self.new.pass receiver.old receiver.new
+        ensures heard { HearsFrames L.setup self.old.outstation self.old.worker.pass self.new.worker.pass receiver.old receiver.new
             (content frame.now ∷ []) result }
         ensures end { IfSome result IsOfFrames }
     {
@@ -332,21 +330,21 @@ impl<
             source: frame.source,
             destination: frame.destination,
         };
-        self.gate.received(self.outstation, &header);
+        self.worker.gate.received(self.outstation, &header);
     }
 
     /// Sends the reply that the link owes, if it owes one. How the worker ends, if it does.
     #[tactic(auto, using(crate::proofs::Confirming::reads_none))]
     fn answer_link(&mut self, reply: &Option<[u8; 10]>) -> Option<WorkerEnd>
         ensures outstation { self.new.outstation ≡ self.old.outstation }
-        ensures pass { self.new.pass ≡ self.old.pass }
+        ensures pass { self.new.worker.pass ≡ self.old.worker.pass }
         ensures confirmed { ReadsFurther L.setup self.old self.new (is_write_fault result) }
         ensures end { IfSome result IsOfFrames }
     {
         match reply {
             Some(frame) => {
-                self.gate.at(self.pass.actor(), Place::BeforeWrite);
-                match self.line.reply(self.rt, &mut self.front, frame) {
+                self.worker.come_to(Place::BeforeWrite);
+                match self.line.reply(self.worker.rt, &mut self.front, frame) {
                     Ok(()) => None,
                     Err(_) => Some(WorkerEnd::WriteFault),
                 }
@@ -361,7 +359,7 @@ impl<
         requires { length octets.items ≤ 2048 }
         ensures outstation { self.new.outstation ≡ self.old.outstation }
         ensures confirmed { ReadsFurther L.setup self.old self.new (is_write_fault result) }
-        ensures heard { HearsOf L.setup self.old.pass self.new.pass
+        ensures heard { HearsOf L.setup self.old.worker.pass self.new.worker.pass
             (option_to_list (response_at self.old.outstation octets.items)) result }
         ensures end { IfSome result IsOfFrames }
     {
@@ -376,7 +374,7 @@ impl<
                 AppFault::Memory => Some(WorkerEnd::Memory),
                 _ => {
                     let octets = &self.recent[..count];
-                    self.gate.refused(self.outstation, octets, &fault);
+                    self.worker.gate.refused(self.outstation, octets, &fault);
                     None
                 }
             },
@@ -387,7 +385,7 @@ impl<
     fn tell_passed_over(&self, response: &Response) {
         let objects = response.stepped_over() as u64;
         if objects > 0 {
-            self.gate.passed_over(self.outstation, objects);
+            self.worker.gate.passed_over(self.outstation, objects);
         }
     }
 
@@ -396,22 +394,21 @@ impl<
         requires own { response.outstation ≡ self.old.outstation }
         ensures outstation { self.new.outstation ≡ self.old.outstation }
         ensures confirmed { ReadsFurther L.setup self.old self.new (is_write_fault result) }
-        ensures heard { HearsOf L.setup self.old.pass self.new.pass (response ∷ []) result }
+        ensures heard { HearsOf L.setup self.old.worker.pass self.new.worker.pass (response ∷ []) result }
         ensures end { IfSome result IsOfFrames }
     {
-        let actor = self.pass.actor();
         let asks = response.control().con;
         let size = response.reports().len() as u64;
-        self.gate.at(actor, Place::Decoded);
+        self.worker.come_to(Place::Decoded);
         if size > 0 {
             self.wait_for_clients(size);
         }
         if asks {
-            self.line.owe(self.rt);
+            self.line.owe(self.worker.rt);
         }
         let end = self.ask(response);
         if asks {
-            self.line.settle(self.rt);
+            self.line.settle(self.worker.rt);
         }
         end
     }
@@ -421,13 +418,13 @@ impl<
         requires own { response.outstation ≡ self.old.outstation }
         ensures outstation { self.new.outstation ≡ self.old.outstation }
         ensures confirmed { ReadsFurther L.setup self.old self.new (is_write_fault result) }
-        ensures heard { HearsOf L.setup self.old.pass self.new.pass (response ∷ []) result }
+        ensures heard { HearsOf L.setup self.old.worker.pass self.new.worker.pass (response ∷ []) result }
         ensures end { IfSome result IsOfFrames }
     {
-        let moment = self.clock.moment();
+        let moment = self.worker.clock.moment();
         let step = Step::Fragment { response, moment };
-        let reply = make_call(self.rt, self.shared, &mut self.pass, step, self.gate);
-        self.gate.at(self.pass.actor(), Place::Stepped);
+        let reply = self.worker.make(step);
+        self.worker.come_to(Place::Stepped);
         self.hear(&reply, moment);
         self.confirm(&reply)
     }
@@ -435,7 +432,7 @@ impl<
     /// Keeps the moment, where the core took a fragment.
     fn hear(&mut self, reply: &Result<Reply, StepFault>, moment: u64)
         ensures outstation { self.new.outstation ≡ self.old.outstation }
-        ensures pass { self.new.pass ≡ self.old.pass }
+        ensures pass { self.new.worker.pass ≡ self.old.worker.pass }
         ensures front { self.new.front ≡ self.old.front }
     {
         if is_taken(reply) {
@@ -446,19 +443,21 @@ impl<
     /// Waits until the clients that read have room for what a fragment brings, which tells of so many observations.
     fn wait_for_clients(&self, size: u64) {
         let bell = Bell::new();
-        let began = self.clock.moment();
+        let began = self.worker.clock.moment();
         for _nap in 0..self.patience.for_clients / NAP_MS {
-            let moment = self.clock.moment();
+            let moment = self.worker.clock.moment();
             let load = Load {
                 outstation: self.outstation,
                 size,
                 waited: moment.saturating_sub(began),
                 patience: self.patience.for_clients,
             };
-            if self.shared.stopping() || !self.shared.is_outrun(self.rt, load, moment) {
+            if self.worker.shared.stopping()
+                || !self.worker.shared.is_outrun(self.worker.rt, load, moment)
+            {
                 return;
             }
-            bell.wait_for(self.rt, 0, Duration::from_millis(NAP_MS));
+            bell.wait_for(self.worker.rt, 0, Duration::from_millis(NAP_MS));
         }
     }
 
@@ -467,13 +466,13 @@ impl<
         ensures outstation { self.new.outstation ≡ self.old.outstation }
         ensures confirmed { Confirms reply.now self.old.front self.new.front (is_write_fault result) }
         ensures spent { reply.now ≡ Err StepFault.Spent → result ≡ Some WorkerEnd.Stopping }
-        ensures pass { self.new.pass ≡ self.old.pass }
+        ensures pass { self.new.worker.pass ≡ self.old.worker.pass }
         ensures end { IfSome result IsOfFrames }
     {
         match owed_by(reply) {
             Some(octets) => {
-                self.gate.at(self.pass.actor(), Place::BeforeWrite);
-                match self.line.confirm(self.rt, &mut self.front, &octets) {
+                self.worker.come_to(Place::BeforeWrite);
+                match self.line.confirm(self.worker.rt, &mut self.front, &octets) {
                     Ok(()) => None,
                     Err(_) => Some(WorkerEnd::WriteFault),
                 }

@@ -6,9 +6,8 @@ ghost use Rattle.run_shared.specs.Turn.{Pass as Seen};
 ghost use Rattle.gw_threads.specs.Sends.{is_request, PollsOnce, SendsAll, SendsAllGiven, SentAll, TellsOutstationLoss};
 
 use crate::awaited::Awaited;
-use crate::call::make_call;
 use crate::gate::{Gate, Place};
-use crate::lost::lose_outstation;
+use crate::worker::Worker;
 use dnp_app::Request;
 use run_clock::Clock;
 use run_ends::{Front, Line, LineCourse, Outgoing, Sending, WorkerEnd};
@@ -28,15 +27,11 @@ pub struct OutstationWriter<
     C: Clock,
     G: Gate,
 > {
-    pub rt: &'a R,
-    pub shared: &'a S,
-    pub pass: Pass<L>,
+    pub worker: Worker<'a, L, S, R, C, G>,
     pub outstation: u8,
     pub line: &'b Line<W, N>,
     /// What of the line's history it has seen.
     pub front: Front<Sending, N>,
-    pub clock: &'a C,
-    pub gate: &'a G,
     /// What it waits for before its next turn.
     pub awaits: Awaited,
 }
@@ -74,21 +69,24 @@ pub fn outstation_writer<
     ensures end { MayEndWriting result.2 }
 {
     pass.attest();
-    let mut writer = OutstationWriter {
+    let worker = Worker {
         rt,
         shared,
         pass,
+        clock,
+        gate,
+    };
+    let mut writer = OutstationWriter {
+        worker,
         outstation,
         line,
         front: line.join(rt),
-        clock,
-        gate,
         awaits: Awaited::Nothing,
     };
     let end = writer.write_on();
-    writer.pass.attest();
-    let OutstationWriter { pass, front, .. } = writer;
-    (pass, front, end)
+    writer.worker.pass.attest();
+    let OutstationWriter { worker, front, .. } = writer;
+    (worker.pass, front, end)
 }
 
 impl<
@@ -104,19 +102,21 @@ impl<
 > OutstationWriter<'a, 'b, L, N, S, R, W, C, G> {
     /// Turn after turn, until the worker is to end.
     fn write_on(&mut self) -> WorkerEnd
-        requires may { IsOne (L.roles.poller self.old.outstation) self.old.pass.actor }
-        ensures sent { SentAll L.setup self.old.outstation self.old.pass self.new.pass self.old.front self.new.front
+        requires may { IsOne (L.roles.poller self.old.outstation) self.old.worker.pass.actor }
+        ensures sent { SentAll L.setup self.old.outstation self.old.worker.pass self.new.worker.pass self.old.front self.new.front
             (is_write_fault (Some result)) }
         ensures lost { is_write_fault (Some result) ≡ true
-            → (mid : Seen) × TellsOutstationLoss L.setup self.old.outstation mid self.new.pass }
+            → (mid : Seen) × TellsOutstationLoss L.setup self.old.outstation mid self.new.worker.pass }
         ensures end { MayEndWriting result }
     {
-        'requests: for _ in self.rt.forever() {
+        'requests: for _ in self.worker.rt.forever() {
             if let Some(end) = self.turn() {
                 return end;
             }
-            self.awaits
-                .wait(self.rt, self.shared.outstation_bell(self.outstation));
+            self.awaits.wait(
+                self.worker.rt,
+                self.worker.shared.outstation_bell(self.outstation),
+            );
         }
         unreachable!()
     }
@@ -124,17 +124,17 @@ impl<
     /// One turn: sends the next request if one is due. How the worker ends, if it does; else it waits for what it awaits then.
     #[tactic(auto, using(crate::proofs::Requesting::sent_none, crate::proofs::Requesting::sent_loss))]
     pub fn turn(&mut self) -> Option<WorkerEnd>
-        requires may { IsOne (L.roles.poller self.old.outstation) self.old.pass.actor }
+        requires may { IsOne (L.roles.poller self.old.outstation) self.old.worker.pass.actor }
         ensures outstation { self.new.outstation ≡ self.old.outstation }
-        ensures sent { SentAll L.setup self.old.outstation self.old.pass self.new.pass self.old.front self.new.front
+        ensures sent { SentAll L.setup self.old.outstation self.old.worker.pass self.new.worker.pass self.old.front self.new.front
             (is_write_fault result) }
         ensures lost { is_write_fault result ≡ true
-            → (mid : Seen) × TellsOutstationLoss L.setup self.old.outstation mid self.new.pass }
+            → (mid : Seen) × TellsOutstationLoss L.setup self.old.outstation mid self.new.worker.pass }
         ensures end { IfSome result MayEndWriting }
     {
         // Read before all that a ring may tell of.
         let rung = self.ring_count();
-        if self.shared.stopping() {
+        if self.worker.shared.stopping() {
             return Some(WorkerEnd::Stopping);
         }
         if self.rests(rung) {
@@ -148,12 +148,14 @@ impl<
     /// Whether the outstation isn't to be asked yet. Then the worker waits for as long, unless an order comes for it, which rings.
     fn rests(&mut self, rung: u64) -> bool
         ensures outstation { self.new.outstation ≡ self.old.outstation }
-        ensures pass { self.new.pass ≡ self.old.pass }
+        ensures pass { self.new.worker.pass ≡ self.old.worker.pass }
         ensures front { self.new.front ≡ self.old.front }
     {
-        let milliseconds = self
-            .shared
-            .rest(self.rt, self.outstation, self.clock.moment());
+        let milliseconds = self.worker.shared.rest(
+            self.worker.rt,
+            self.outstation,
+            self.worker.clock.moment(),
+        );
         self.awaits = Awaited::RingOrTime { rung, milliseconds };
         milliseconds != 0
     }
@@ -161,9 +163,9 @@ impl<
     /// Sends the next request if one is due; why the outstation is lost, if it is. No other is due before a step that rings.
     #[tactic(auto, using(crate::proofs::Requesting::sent_request, crate::proofs::Requesting::sent_nothing))]
     fn send_next(&mut self, rung: u64) -> Option<WorkerEnd>
-        requires may { IsOne (L.roles.poller self.old.outstation) self.old.pass.actor }
+        requires may { IsOne (L.roles.poller self.old.outstation) self.old.worker.pass.actor }
         ensures outstation { self.new.outstation ≡ self.old.outstation }
-        ensures sent { SentAll L.setup self.old.outstation self.old.pass self.new.pass self.old.front self.new.front
+        ensures sent { SentAll L.setup self.old.outstation self.old.worker.pass self.new.worker.pass self.old.front self.new.front
             (is_write_fault result) }
         ensures end { IfSome result MayEndWriting }
     {
@@ -171,8 +173,8 @@ impl<
         let answer = self.poll();
         match request_in(&answer) {
             Some(request) => {
-                self.gate.at(self.pass.actor(), Place::BeforeWrite);
-                match self.line.request(self.rt, &mut self.front, &request) {
+                self.worker.come_to(Place::BeforeWrite);
+                match self.line.request(self.worker.rt, &mut self.front, &request) {
                     Ok(()) => None,
                     Err(_) => Some(WorkerEnd::WriteFault),
                 }
@@ -188,7 +190,7 @@ impl<
 
     /// How often the outstation's bell was rung.
     pub fn ring_count(&self) -> u64 {
-        match self.shared.outstation_bell(self.outstation) {
+        match self.worker.shared.outstation_bell(self.outstation) {
             Some(bell) => bell.rung(),
             None => 0,
         }
@@ -198,31 +200,24 @@ impl<
     fn lose(&mut self)
         ensures outstation { self.new.outstation ≡ self.old.outstation }
         ensures front { self.new.front ≡ self.old.front }
-        ensures told { TellsOutstationLoss L.setup self.old.outstation self.old.pass self.new.pass }
+        ensures told { TellsOutstationLoss L.setup self.old.outstation self.old.worker.pass self.new.worker.pass }
     {
-        lose_outstation(
-            self.rt,
-            self.shared,
-            &mut self.pass,
-            self.outstation,
-            self.clock,
-            self.gate,
-        );
+        self.worker.lose_outstation(self.outstation);
     }
 
     /// Asks the core for the next request.
     fn poll(&mut self) -> Result<Reply, StepFault>
-        requires { IsOne (L.roles.poller self.old.outstation) self.old.pass.actor }
+        requires { IsOne (L.roles.poller self.old.outstation) self.old.worker.pass.actor }
         ensures outstation { self.new.outstation ≡ self.old.outstation }
         ensures front { self.new.front ≡ self.old.front }
-        ensures polled { PollsOnce L.setup self.old.outstation self.old.pass self.new.pass result }
+        ensures polled { PollsOnce L.setup self.old.outstation self.old.worker.pass self.new.worker.pass result }
     {
         let step = Step::Poll {
             outstation: self.outstation,
-            moment: self.clock.moment(),
-            wall: self.clock.wall(),
+            moment: self.worker.clock.moment(),
+            wall: self.worker.clock.wall(),
         };
-        make_call(self.rt, self.shared, &mut self.pass, step, self.gate)
+        self.worker.make(step)
     }
 }
 

@@ -2,22 +2,16 @@
 ghost use Rattle.std.specs.Prelude.{◌≡◌};
 ghost use Rattle.gw_threads.specs.Ticking.{Ticks};
 
-use crate::call::make_call;
 use crate::gate::Gate;
 use crate::standstill::Turns;
+use crate::worker::Worker;
 use run_clock::Clock;
 use run_ends::WorkerEnd;
-use run_shared::{Calls, Course, Pass, Step};
+use run_shared::{Calls, Course, Pass};
 use std::rt::Clock as Sleeps;
 use std::sync::Wait;
 use std::thread;
 use std::time::Duration;
-
-/// The milliseconds from one tick to the next.
-const TICK_MS: u64 = 100;
-
-/// The milliseconds from a standstill of the host, once it is known, to the next tick.
-const CATCHING_UP_MS: u64 = 200;
 
 /// The milliseconds of a piece of a pause, after each of which the server may end.
 const PIECE_MS: u64 = 100;
@@ -40,43 +34,21 @@ pub fn clock<L: Course, S: Calls<L>, R: Wait + Sleeps, C: Clock, G: Gate>(
     ensures ticks { Ticks L.setup pass result.0 }
     ensures end { result.1 ≡ WorkerEnd.Stopping }
 {
-    let mut pass = pass;
     let mut turns = Turns::new(clock.moment());
+    let mut worker = Worker {
+        rt,
+        shared,
+        pass,
+        clock,
+        gate,
+    };
     'ticks: for _ in rt.forever() {
-        let Some(rest) = clock_turn(rt, shared, &mut pass, &mut turns, clock, gate) else {
+        let Some(rest) = worker.tick(&mut turns) else {
             break;
         };
         thread::sleep(rt, Duration::from_millis(rest));
     }
-    (pass, WorkerEnd::Stopping)
-}
-
-/// One turn of the clock: makes a tick, or puts it off after a standstill. How many milliseconds later the next turn comes, if one
-/// does.
-#[tactic(auto, using(crate::proofs::TicksAlone::ticks_none))]
-pub fn clock_turn<L: Course, S: Calls<L>, R: Wait, C: Clock, G: Gate>(
-    rt: &R,
-    shared: &S,
-    pass: &mut Pass<L>,
-    turns: &mut Turns,
-    clock: &C,
-    gate: &G,
-) -> Option<u64>
-    ensures own { pass.new.actor ≡ pass.old.actor }
-    ensures ticks { Ticks L.setup pass.old pass.new }
-{
-    if shared.stopping() {
-        return None;
-    }
-    let moment = clock.moment();
-    if let Some(milliseconds) = turns.add(moment) {
-        gate.stood_still(milliseconds);
-        return Some(CATCHING_UP_MS);
-    }
-    match make_call(rt, shared, pass, Step::Tick { moment }, gate) {
-        Ok(_) => Some(TICK_MS),
-        Err(_) => None,
-    }
+    (worker.pass, WorkerEnd::Stopping)
 }
 
 /// Lets a second pass, or less where the server ends.

@@ -5,7 +5,7 @@ use crate::ends::{Coming, Inlet, Outbox, Outlet};
 use crate::feeds::ApduRest;
 use crate::passes::{TwoPasses, Workers};
 use crate::scene::{Part, Scene, code_of};
-use gw_threads::{ClientReader, ClientWriter, Gate, WorkerEnd, client_turn, make_call};
+use gw_threads::{ClientReader, ClientWriter, Gate, WorkerEnd};
 use run_ends::Batch;
 use run_shared::{Calls, Course, Pass, Step};
 use sim_peers::{Centre, Number, Pipe, Random, VirtualClock};
@@ -75,8 +75,7 @@ impl<'a, 'b, L: Course, S: Calls<L>, R: Wait, G: Gate> CentrePart<'a, 'b, L, S, 
         passes: TwoPasses<L>,
     ) -> CentrePart<'a, 'b, L, S, R, G> {
         let TwoPasses { reader, writer } = passes;
-        let (alloc, rt) = (scene.alloc, scene.rt);
-        let (shared, clock, gate) = (scene.shared, scene.clock, scene.gate);
+        let alloc = scene.alloc;
         let stream = u64::from(number).saturating_mul(3).saturating_add(200);
         CentrePart {
             scene,
@@ -86,14 +85,10 @@ impl<'a, 'b, L: Course, S: Calls<L>, R: Wait, G: Gate> CentrePart<'a, 'b, L, S, 
             outbox,
             outlet: Outlet::new(outbox),
             reader: ClientReader {
-                rt,
-                shared,
-                pass: reader,
+                worker: scene.worker(reader),
                 client: number,
-                clock,
-                gate,
             },
-            writer: ClientWriter::new(rt, shared, writer, number, clock, gate),
+            writer: ClientWriter::new(scene.worker(writer), number),
             rest: ApduRest::new(alloc),
             batch: Batch::new(),
             duty: Duty::new(0),
@@ -121,15 +116,7 @@ impl<'a, 'b, L: Course, S: Calls<L>, R: Wait, G: Gate> CentrePart<'a, 'b, L, S, 
             client: self.number,
             moment: now,
         };
-        if make_call(
-            scene.rt,
-            scene.shared,
-            &mut self.reader.pass,
-            step,
-            scene.gate,
-        )
-        .is_err()
-        {
+        if self.reader.worker.make(step).is_err() {
             return;
         }
         scene.log.add("opened", &[1, u64::from(self.number)]);
@@ -236,7 +223,7 @@ impl<'a, 'b, L: Course, S: Calls<L>, R: Wait, G: Gate> CentrePart<'a, 'b, L, S, 
         {
             return;
         }
-        let ended = client_turn(&mut self.writer, &mut self.outlet, &mut self.batch);
+        let ended = self.writer.turn(&mut self.outlet, &mut self.batch);
         self.duty.wait(now);
         let octets = self.outbox.take(self.scene.alloc);
         self.down.send(now, octets.as_slice(), 0);
@@ -317,8 +304,11 @@ impl<'a, 'b, L: Course, S: Calls<L>, R: Wait, G: Gate> Workers<L>
     for CentrePart<'a, 'b, L, S, R, G> {
     fn give(self, passes: &mut Vec<Pass<L>>) {
         let CentrePart { reader, writer, .. } = self;
-        let ClientReader { pass: reader, .. } = reader;
-        let writer = writer.into_pass();
-        TwoPasses { reader, writer }.give(passes);
+        let ClientReader { worker, .. } = reader;
+        TwoPasses {
+            reader: worker.pass,
+            writer: writer.into_pass(),
+        }
+        .give(passes);
     }
 }

@@ -6,7 +6,6 @@ use crate::passes::{TwoPasses, Workers};
 use crate::scene::{Part, Scene, code_of};
 use gw_threads::{
     Awaited, Gate, LinkCheck, OutstationReader, OutstationWriter, Patience, WorkerEnd,
-    lose_outstation, make_call,
 };
 use run_ends::{Line, LineCourse};
 use run_shared::{Calls, Course, Load, Pass, Step};
@@ -176,15 +175,7 @@ impl<'a, 'b, 'c, L: Course, N: LineCourse, S: Calls<L>, R: Wait, G: Gate> Outsta
             outstation: self.number,
             moment: now,
         };
-        if make_call(
-            scene.rt,
-            scene.shared,
-            &mut self.reader.pass,
-            step,
-            scene.gate,
-        )
-        .is_err()
-        {
+        if self.reader.worker.make(step).is_err() {
             return;
         }
         scene.log.add("opened", &[0, u64::from(self.number)]);
@@ -328,16 +319,8 @@ impl<'a, 'b, 'c, L: Course, N: LineCourse, S: Calls<L>, R: Wait, G: Gate> Outsta
             self.scene.log.add("checks", &[u64::from(self.number)]);
         }
         if let Some(end) = ended {
-            let scene = self.scene;
             self.connection.is_read = false;
-            lose_outstation(
-                scene.rt,
-                scene.shared,
-                &mut self.reader.pass,
-                self.number,
-                scene.clock,
-                scene.gate,
-            );
+            self.reader.worker.lose_outstation(self.number);
             self.shut(now, 0, end);
         }
     }
@@ -451,9 +434,13 @@ impl<'a, 'b, 'c, L: Course, N: LineCourse, S: Calls<L>, R: Wait, G: Gate> Worker
     for OutstationPart<'a, 'b, 'c, L, N, S, R, G> {
     fn give(self, passes: &mut Vec<Pass<L>>) {
         let OutstationPart { reader, writer, .. } = self;
-        let OutstationReader { pass: reader, .. } = reader;
-        let OutstationWriter { pass: writer, .. } = writer;
-        TwoPasses { reader, writer }.give(passes);
+        let OutstationReader { worker: reader, .. } = reader;
+        let OutstationWriter { worker: writer, .. } = writer;
+        TwoPasses {
+            reader: reader.pass,
+            writer: writer.pass,
+        }
+        .give(passes);
     }
 }
 
@@ -466,15 +453,11 @@ fn reader_of<'a, 'b, L: Course, N: LineCourse, S: Calls<L>, R: Wait, G: Gate>(
 ) -> OutstationReader<'a, 'b, L, N, S, R, Outlet<'a>, VirtualClock, G> {
     let response = scene.scenario.of(Number::ResponseMs);
     OutstationReader {
+        worker: scene.worker(pass),
         alloc: scene.alloc,
-        rt: scene.rt,
-        shared: scene.shared,
-        pass,
         outstation: number,
         line,
         front: line.join(scene.rt),
-        clock: scene.clock,
-        gate: scene.gate,
         patience: Patience {
             for_clients: 0,
             for_answers: silence_of(scene.scenario),
@@ -494,14 +477,10 @@ fn writer_of<'a, 'b, L: Course, N: LineCourse, S: Calls<L>, R: Wait, G: Gate>(
     pass: Pass<L>,
 ) -> OutstationWriter<'a, 'b, L, N, S, R, Outlet<'a>, VirtualClock, G> {
     OutstationWriter {
-        rt: scene.rt,
-        shared: scene.shared,
-        pass,
+        worker: scene.worker(pass),
         outstation: number,
         line,
         front: line.join(scene.rt),
-        clock: scene.clock,
-        gate: scene.gate,
         awaits: Awaited::Nothing,
     }
 }

@@ -3,11 +3,12 @@ ghost use Rattle.std.specs.Prelude.{◌≡◌};
 ghost use Rattle.run_shared.specs.Roles.{anybody};
 
 use crate::ends::Outbox;
-use gw_threads::WorkerEnd;
-use run_shared::Course;
+use gw_threads::{Gate, Worker, WorkerEnd};
+use run_shared::{Calls, Course, Pass};
 use sim_peers::{Log, Number, Pipe, Random, Scenario, VirtualClock, Weather};
 use std::alloc::{AllocError, Global};
 use std::marker::PhantomData;
+use std::sync::Wait;
 
 /// What the gateway writes to each peer.
 #[derive(Drop)]
@@ -65,6 +66,21 @@ impl<'a, L: Course, S, R, G> Scene<'a, L, S, R, G> {
     /// Random numbers of a part, by its number.
     pub fn random(&self, number: u64) -> Random {
         Random::new(self.scenario.seed, number.saturating_add(1000))
+    }
+}
+
+impl<'a, L: Course, S: Calls<L>, R: Wait, G: Gate> Scene<'a, L, S, R, G> {
+    /// A worker with this pass.
+    pub fn worker(&self, pass: Pass<L>) -> Worker<'a, L, S, R, VirtualClock, G>
+        ensures { result.pass ≡ pass }
+    {
+        Worker {
+            rt: self.rt,
+            shared: self.shared,
+            pass,
+            clock: self.clock,
+            gate: self.gate,
+        }
     }
 }
 

@@ -2,9 +2,9 @@
 
 use crate::passes::Workers;
 use crate::scene::{Part, Scene};
-use gw_threads::{Gate, Turns, clock_turn};
+use gw_threads::{Gate, Turns, Worker};
 use run_shared::{Calls, Course, Pass};
-use sim_peers::{Number, Random};
+use sim_peers::{Number, Random, VirtualClock};
 use std::sync::Wait;
 
 /// The milliseconds by which the wall clock is ahead at most.
@@ -15,7 +15,7 @@ const MOST_AHEAD: u64 = 7_200_000;
 pub struct Ticker<'a, 'b, L: Course, S: Calls<L>, R: Wait, G: Gate> {
     scene: &'b Scene<'a, L, S, R, G>,
     random: Random,
-    pass: Pass<L>,
+    worker: Worker<'a, L, S, R, VirtualClock, G>,
     turns: Turns,
     next: u64,
     jump: u64,
@@ -30,7 +30,7 @@ impl<'a, 'b, L: Course, S: Calls<L>, R: Wait, G: Gate> Ticker<'a, 'b, L, S, R, G
         Ticker {
             scene,
             random,
-            pass,
+            worker: scene.worker(pass),
             turns: Turns::new(0),
             next: 0,
             jump,
@@ -41,14 +41,7 @@ impl<'a, 'b, L: Course, S: Calls<L>, R: Wait, G: Gate> Ticker<'a, 'b, L, S, R, G
     /// Makes a tick.
     fn tick(&mut self, now: u64) {
         let scene = self.scene;
-        let rest = clock_turn(
-            scene.rt,
-            scene.shared,
-            &mut self.pass,
-            &mut self.turns,
-            scene.clock,
-            scene.gate,
-        );
+        let rest = self.worker.tick(&mut self.turns);
         let hold = scene.scenario.of(Number::HoldMs);
         match rest {
             Some(rest) => {
@@ -86,7 +79,7 @@ impl<'a, 'b, L: Course, S: Calls<L>, R: Wait, G: Gate> Part for Ticker<'a, 'b, L
 
 impl<'a, 'b, L: Course, S: Calls<L>, R: Wait, G: Gate> Workers<L> for Ticker<'a, 'b, L, S, R, G> {
     fn give(self, passes: &mut Vec<Pass<L>>) {
-        let Ticker { pass, .. } = self;
-        let _ = passes.push(pass);
+        let Ticker { worker, .. } = self;
+        let _ = passes.push(worker.pass);
     }
 }

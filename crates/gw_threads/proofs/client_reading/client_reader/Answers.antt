@@ -18,10 +18,10 @@ returns-clause-framed g c =
     let before = g.I.Incoming.given c.args.input.now in
     let now = g.I.Incoming.given c.read_on-end.new.input in
     let end = c.read_on-end.result in
-    framed_lost setup c.args.client c.args.pass c.read_on-end.new.self.pass c.lose.new.self.pass before now end
-    (framed setup c.args.client c.args.pass c.read_on-end.new.self.pass before now c.new-feed.result
+    framed_lost setup c.args.client c.args.pass c.read_on-end.new.self.worker.pass c.lose.new.self.worker.pass before now end
+    (framed setup c.args.client c.args.pass c.read_on-end.new.self.worker.pass before now c.new-feed.result
     c.read_on-end.new.feed end c.new-feed.ensures c.read_on-end.ensures.reads)
-    (subst (λ (k : ℕ). Loses setup k c.read_on-end.new.self.pass c.lose.new.self.pass end) c.read_on-end.ensures.client
+    (subst (λ (k : ℕ). Loses setup k c.read_on-end.new.self.worker.pass c.lose.new.self.worker.pass end) c.read_on-end.ensures.client
     c.lose.ensures)
 
 pub returns-clause-own : goal.returns-clause-own
@@ -29,7 +29,7 @@ returns-clause-own g c = framed_own _ _ _ _ _ _ _ (returns-clause-framed g c)
 
 pub returns-clause-lost : goal.returns-clause-lost
 returns-clause-lost g c = (
-  c.read_on-end.new.self.pass,
-  subst (λ (k : ℕ). Loses g.L.Course.setup k c.read_on-end.new.self.pass c.lose.new.self.pass c.read_on-end.result)
+  c.read_on-end.new.self.worker.pass,
+  subst (λ (k : ℕ). Loses g.L.Course.setup k c.read_on-end.new.self.worker.pass c.lose.new.self.worker.pass c.read_on-end.result)
       c.read_on-end.ensures.client c.lose.ensures,
 )

@@ -22,6 +22,6 @@ returns-clause-lost g c = λ fault.
     let told = c.write_on-end.ensures.lost fault in (
       told.0,
       subst (λ (p : Pass). TellsLoss g.L.Course.setup c.args.client told.0 p) (sym c.into_pass-pass.ensures)
-          (subst (λ (a : Asking). TellsLoss g.L.Course.setup a.client told.0 c.write_on-end.new.source.pass)
+          (subst (λ (a : Asking). TellsLoss g.L.Course.setup a.client told.0 c.write_on-end.new.self.pass)
           c.new-source.ensures told.1),
     )

@@ -23,10 +23,10 @@ returns-clause-own g c =
 
 pub returns-clause-heard : goal.returns-clause-heard
 returns-clause-heard g c =
-    hears g.L.Course.setup c.args.outstation c.args.pass c.read_on-end.new.self.pass c.lose_outstation.new.pass
+    hears g.L.Course.setup c.args.outstation c.args.pass c.read_on-end.new.self.worker.pass c.lose_outstation.new.self.pass
     c.args.receiver c.read_on-end.new.receiver c.new-feed.result c.read_on-end.new.feed
     (g.I.Incoming.given c.args.input.now) (g.I.Incoming.given c.read_on-end.new.input) c.read_on-end.result
     c.new-feed.ensures c.read_on-end.ensures.heard c.lose_outstation.ensures.told
 
 pub returns-clause-lost : goal.returns-clause-lost
-returns-clause-lost g c = (c.read_on-end.new.self.pass, c.lose_outstation.ensures.told)
+returns-clause-lost g c = (c.read_on-end.new.self.worker.pass, c.lose_outstation.ensures.told)

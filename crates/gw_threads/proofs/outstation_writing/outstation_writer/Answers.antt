@@ -10,5 +10,5 @@ returns-clause-own g c = sent_own _ _ _ _ _ _ _ c.write_on-end.ensures.sent
 
 pub returns-clause-all : goal.returns-clause-all
 returns-clause-all g c =
-    sends_all g.L.Course.setup g.L.Course.roles c.args.outstation c.args.pass c.write_on-end.new.self.pass
+    sends_all g.L.Course.setup g.L.Course.roles c.args.outstation c.args.pass c.write_on-end.new.self.worker.pass
     c.write_on-end.new.self.front _ c.attest.ensures.roles c.attest-2.ensures.roles (returns-clause-sent g c)

@@ -5,6 +5,6 @@ use Rattle.gw_threads.proofs.ticking.clock.Given as goal
 
 abbrev pub invariant-ticks : goal.invariant-ticks
 invariant-ticks g l = record {
-  own : l.pass.actor ≡ l.fn.pass.actor;
-  made : Ticks g.L.Course.setup l.fn.pass l.pass;
+  own : l.worker.pass.actor ≡ l.fn.pass.actor;
+  made : Ticks g.L.Course.setup l.fn.pass l.worker.pass;
 }

@@ -8,7 +8,7 @@ use Rattle.gw_threads.proofs.client_reading.ClientReader.take.Given as goal
 abbrev pub invariant-apdus : goal.invariant-apdus
 invariant-apdus g l = record {
   client : l.self.client ≡ l.initial.self.client;
-  stepped : Stepped g.L.Course.setup l.initial.self.client l.initial.self.pass l.self.pass
+  stepped : Stepped g.L.Course.setup l.initial.self.client l.initial.self.worker.pass l.self.worker.pass
       (ending_after_piece l.fn.feed l.piece) l.feed;
 }
 

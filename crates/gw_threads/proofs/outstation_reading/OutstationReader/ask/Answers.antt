@@ -13,23 +13,23 @@ pub returns-clause-confirmed : goal.returns-clause-confirmed
 returns-clause-confirmed g c =
     let setup = g.L.Course.setup in
     let outstation = c.args.self.now.outstation in
-    let mine = c.args.self.now.pass in
+    let mine = c.args.self.now.worker.pass in
     let old = c.args.self.now.front in
     let new = c.confirm.new.self.front in
-    let reply = c.make_call-reply.result in
+    let reply = c.make-reply.result in
     let cut = is_write_fault c.confirm.result in
     subst (λ (p : Pass). ReadsAll setup outstation mine p old new cut) (sym (c.confirm.ensures.pass ∙ c.hear.ensures.pass))
-    (reads_step setup outstation mine c.make_call-reply.new.pass old new c.args.response c.moment-moment.result
-    c.make_call-reply.ensures.answered.0 reply cut c.requires.own c.make_call-reply.ensures.answered.1
+    (reads_step setup outstation mine c.make-reply.new.self.pass old new c.args.response c.moment-moment.result
+    c.make-reply.ensures.answered.0 reply cut c.requires.own c.make-reply.ensures.answered.1
     (subst (λ (l : Known Sending). Confirms reply l new cut) c.hear.ensures.front c.confirm.ensures.confirmed))
 
 pub returns-clause-heard : goal.returns-clause-heard
 returns-clause-heard g c =
     let setup = g.L.Course.setup in
-    let mine = c.args.self.now.pass in
+    let mine = c.args.self.now.worker.pass in
     let result = c.confirm.result in
     subst (λ (p : Pass). HearsOf setup mine p (c.args.response ∷ []) result)
     (sym (c.confirm.ensures.pass ∙ c.hear.ensures.pass))
-    (heard_step setup mine c.make_call-reply.new.pass c.args.response c.moment-moment.result
-    c.make_call-reply.ensures.answered.0 c.make_call-reply.result result c.make_call-reply.ensures.answered.1
+    (heard_step setup mine c.make-reply.new.self.pass c.args.response c.moment-moment.result
+    c.make-reply.ensures.answered.0 c.make-reply.result result c.make-reply.ensures.answered.1
     c.confirm.ensures.spent)

@@ -7,8 +7,8 @@ use Rattle.gw_threads.proofs.outstation_reading.OutstationReader.read_on.Given a
 abbrev pub invariant-pieces : goal.invariant-pieces
 invariant-pieces g l = record {
   outstation : l.self.outstation ≡ l.fn.self.outstation;
-  confirmed : ReadsAll g.L.Course.setup l.fn.self.outstation l.fn.self.pass l.self.pass l.fn.self.front l.self.front false;
-  heard : HearsOctets g.L.Course.setup l.fn.self.outstation l.fn.self.pass l.self.pass l.fn.receiver l.receiver l.fn.feed
+  confirmed : ReadsAll g.L.Course.setup l.fn.self.outstation l.fn.self.worker.pass l.self.worker.pass l.fn.self.front l.self.front false;
+  heard : HearsOctets g.L.Course.setup l.fn.self.outstation l.fn.self.worker.pass l.self.worker.pass l.fn.receiver l.receiver l.fn.feed
       l.feed (g.I.Incoming.given l.fn.input) (g.I.Incoming.given l.input) None;
   drained : IsDrained l.feed;
   failed : g.I.Incoming.has_failed l.input ≡ g.I.Incoming.has_failed l.fn.input;

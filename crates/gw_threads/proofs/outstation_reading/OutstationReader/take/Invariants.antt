@@ -7,8 +7,8 @@ use Rattle.gw_threads.proofs.outstation_reading.OutstationReader.take.Given as g
 abbrev pub invariant-events : goal.invariant-events
 invariant-events g l = record {
   outstation : l.self.outstation ≡ l.fn.self.outstation;
-  confirmed : ReadsAll g.L.Course.setup l.fn.self.outstation l.fn.self.pass l.self.pass l.fn.self.front l.self.front false;
-  heard : Halfway g.L.Course.setup l.fn.self.outstation l.fn.self.pass l.self.pass l.fn.receiver l.receiver
+  confirmed : ReadsAll g.L.Course.setup l.fn.self.outstation l.fn.self.worker.pass l.self.worker.pass l.fn.self.front l.self.front false;
+  heard : Halfway g.L.Course.setup l.fn.self.outstation l.fn.self.worker.pass l.self.worker.pass l.fn.receiver l.receiver
       (l.fn.feed ++ l.piece) l.feed;
 }
 

@@ -6,11 +6,11 @@ use Rattle.gw_threads.proofs.outstation_reading.OutstationReader.take_fragment.G
 
 pub returns-in-Ok-clause-heard : goal.returns-in-Ok-clause-heard
 returns-in-Ok-clause-heard g c =
-    subst (λ (l : List Fragment). HearsOf g.L.Course.setup c.args.self.now.pass c.step.new.self.pass l c.step.result)
+    subst (λ (l : List Fragment). HearsOf g.L.Course.setup c.args.self.now.worker.pass c.step.new.self.worker.pass l c.step.result)
     (sym (is_response c.args.self.now.outstation c.args.octets.items c.in-Ok.response c.in-Ok.ensures.exact))
     c.step.ensures.heard
 
 pub returns-in_default-clause-heard : goal.returns-in_default-clause-heard
 returns-in_default-clause-heard g c =
-    heard_nothing g.L.Course.setup c.args.self.now.pass _ None
+    heard_nothing g.L.Course.setup c.args.self.now.worker.pass _ None
     (is_refused c.args.self.now.outstation c.args.octets.items c.in-Err.fault c.in-Err.ensures.exact c.in_default.not-Memory)

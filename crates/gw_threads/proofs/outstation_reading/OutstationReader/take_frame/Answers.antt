@@ -10,21 +10,21 @@ use Rattle.gw_threads.proofs.outstation_reading.OutstationReader.take_frame.Goal
 
 pub returns-clause-confirmed : goal.returns-clause-confirmed
 returns-clause-confirmed g c =
-    reads_next g.L.Course.setup c.args.self.now.outstation c.answer_link.new.self.outstation c.args.self.now.pass
-    c.answer_link.new.self.pass c.take_fragment.new.self.pass c.args.self.now.front c.answer_link.new.self.front
+    reads_next g.L.Course.setup c.args.self.now.outstation c.answer_link.new.self.outstation c.args.self.now.worker.pass
+    c.answer_link.new.self.worker.pass c.take_fragment.new.self.worker.pass c.args.self.now.front c.answer_link.new.self.front
     c.take_fragment.new.self.front _ c.answer_link.ensures.outstation c.in_default-answer_link.ensures.confirmed
     c.take_fragment.ensures.confirmed
 
 pub returns-in_default-clause-heard : goal.returns-in_default-clause-heard
 returns-in_default-clause-heard g c =
-    frames_none g.L.Course.setup c.args.self.now.outstation c.args.self.now.pass c.args.receiver.now c.take.new.self
+    frames_none g.L.Course.setup c.args.self.now.outstation c.args.self.now.worker.pass c.args.receiver.now c.take.new.self
     (content c.args.frame.now ∷ []) ends.Memory tt
 
 pub returns-in-Some-clause-heard : goal.returns-in-Some-clause-heard
 returns-in-Some-clause-heard g c =
     let setup = g.L.Course.setup in
     let outstation = c.args.self.now.outstation in
-    let mine = c.args.self.now.pass in
+    let mine = c.args.self.now.worker.pass in
     let x = c.args.receiver.now in
     let y = c.take.new.self in
     let frames = content c.args.frame.now ∷ [] in
@@ -36,7 +36,7 @@ pub returns-in_err-received-clause-heard : goal.returns-in_err-received-clause-h
 returns-in_err-received-clause-heard g c =
     let setup = g.L.Course.setup in
     let outstation = c.args.self.now.outstation in
-    let mine = c.args.self.now.pass in
+    let mine = c.args.self.now.worker.pass in
     let x = c.args.receiver.now in
     let y = c.take.new.self in
     let frame = content c.args.frame.now in
@@ -51,14 +51,14 @@ pub returns-clause-heard : goal.returns-clause-heard
 returns-clause-heard g c =
     let setup = g.L.Course.setup in
     let octets = c.in_ok-received.field-0.items in
-    let after = c.take_fragment.new.self.pass in
+    let after = c.take_fragment.new.self.worker.pass in
     let result = c.take_fragment.result in
-    frame_heard setup c.args.self.now.outstation c.args.self.now.pass after c.args.receiver.now c.take.new.self
+    frame_heard setup c.args.self.now.outstation c.args.self.now.worker.pass after c.args.receiver.now c.take.new.self
     (content c.args.frame.now) (Some octets) result c.in-Ok.ensures.taken
     (λ own peer before has.
     sym (ap (option_map (λ (f : Vec ℕ Global). f.items)) c.in_ok-received.was)
     ∙ c.in-Ok.ensures.fragment own peer before has)
     (subst (λ (p : Pass). HearsOf setup p after (responses_at c.args.self.now.outstation (Some octets)) result)
     c.answer_link.ensures.pass
-    (subst (λ (o : ℕ). HearsOf setup c.answer_link.new.self.pass after (responses_at o (Some octets)) result)
+    (subst (λ (o : ℕ). HearsOf setup c.answer_link.new.self.worker.pass after (responses_at o (Some octets)) result)
     c.answer_link.ensures.outstation c.take_fragment.ensures.heard))

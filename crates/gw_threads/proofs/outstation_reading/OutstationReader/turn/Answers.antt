@@ -8,7 +8,7 @@ pub returns-in-Later-clause-heard : goal.returns-in-Later-clause-heard
 returns-in-Later-clause-heard g c =
     let setup = g.L.Course.setup in
     let outstation = c.args.self.now.outstation in
-    let mine = c.args.self.now.pass in
+    let mine = c.args.self.now.worker.pass in
     let x = c.args.receiver.now in
     let held = c.args.feed.now in
     let before = g.I.Incoming.given c.args.input.now in
@@ -23,7 +23,7 @@ pub returns-in-End-clause-heard : goal.returns-in-End-clause-heard
 returns-in-End-clause-heard g c =
     let before = g.I.Incoming.given c.args.input.now in
     let now = g.I.Incoming.given c.receive-arrival.new.self in
-    octets_none g.L.Course.setup c.args.self.now.outstation c.args.self.now.pass c.args.receiver.now c.args.feed.now
+    octets_none g.L.Course.setup c.args.self.now.outstation c.args.self.now.worker.pass c.args.receiver.now c.args.feed.now
     before now c.end.result c.requires.drained
     (came_none c.receive-arrival.result before now c.receive-arrival.new.buffer (inr c.in-End.is)
     c.receive-arrival.ensures.given)

@@ -6,5 +6,5 @@ use Rattle.gw_threads.proofs.outstation_writing.OutstationWriter.write_on.Given 
 abbrev pub invariant-requests : goal.invariant-requests
 invariant-requests g l = record {
   outstation : l.self.outstation ≡ l.fn.self.outstation;
-  sent : SentAll g.L.Course.setup l.fn.self.outstation l.fn.self.pass l.self.pass l.fn.self.front l.self.front false;
+  sent : SentAll g.L.Course.setup l.fn.self.outstation l.fn.self.worker.pass l.self.worker.pass l.fn.self.front l.self.front false;
 }
