@@ -19,7 +19,7 @@ from building import NO_PROGRAM, PROVED, ROOT, UNPROVED, is_fresh, path_without_
 
 LOGS = ROOT / "out/test"
 # The crates of tests; those that take longest come first.
-CRATES = ("test_threads", "test_server", "test_programs", "test_core", "test_faults", "test_layers")
+CRATES = ("test_threads", "test_server", "test_programs", "test_faults", "test_layers")
 # How many seconds one may take, one test of a crate may, and how many lines of one that failed are shown.
 LIMIT, TEST_LIMIT, SHOWN = 900, 400, 40
 # For a program without proof, whose addresses are checked as it runs (see `gateway`).

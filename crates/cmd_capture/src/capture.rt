@@ -3,9 +3,8 @@
 use crate::files::Files;
 use crate::kept::Kept;
 use crate::lines::Lines;
-use crate::pieces::{OnePiece, Pieces};
 use crate::waiting::{Next, WaitingLines};
-use cmd_text::{RecordEnd, RecordEndCause};
+use cmd_text::{OnePiece, Pieces, RecordEnd, RecordEndCause};
 use gw_model::Memory;
 use gw_steps::{Pumps, Reply, Step, StepFault};
 use run_clock::Bell;

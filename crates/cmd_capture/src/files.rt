@@ -1,10 +1,9 @@
 //! The files of a capture, two for each of its pieces.
 
 use crate::lines::Lines;
-use crate::pieces::Pieces;
 use crate::sorter::Sorter;
 use crate::waiting::Amount;
-use cmd_text::{RecordEnd, RecordEndCause};
+use cmd_text::{Pieces, RecordEnd, RecordEndCause};
 use std::alloc::Global;
 use std::io::{self, BufWriter, Write};
 

@@ -9,15 +9,14 @@ mod capture;
 mod files;
 mod kept;
 mod lines;
-mod pieces;
 mod sorter;
 mod step_line;
 mod waiting;
 
 pub use capture::Capture;
 pub use cmd_replay::{Instruction, push_reply, read_instruction};
+pub use cmd_text::{OnePiece, Pieces};
 pub use gw_steps::Pumps;
 pub use kept::Kept;
 pub use lines::Lines;
-pub use pieces::{OnePiece, Pieces};
 pub use step_line::{has_line, push_step};

@@ -10,7 +10,7 @@ use crate::list::{ListRow, Listed};
 use crate::problem::{CellProblem, shorten};
 use crate::reading::Outstations;
 use crate::told::Told;
-use cmd_names::without_apostrophe;
+use cmd_text::without_apostrophe;
 use gw_map::{Absence, Key, Section, keys_of};
 use gw_model::{Kind, PointKey};
 use std::alloc::AllocError;

@@ -1,7 +1,7 @@
 //! What reads like a slip in the names of a list.
 
 use cmd_lists::{List, ListRow, Told};
-use cmd_names::Names;
+use cmd_text::Names;
 use gw_map::Settings;
 use std::alloc::{AllocError, Global};
 use std::collections::HashMap;

@@ -10,7 +10,7 @@ mod writing;
 pub use cmd_lists::{
     BadList, CellProblem, List, ListFault, ListRow, Listed, MOST_TOLD, Outstations, Told, read_list,
 };
-pub use cmd_names::Names;
+pub use cmd_text::Names;
 pub use doubts::{NameDoubt, name_doubts};
 pub use matching::names_of;
 pub use toml_text::settings_text;

@@ -1,7 +1,7 @@
 //! Which rows of a list belong to which points and controls of settings.
 
 use cmd_lists::{List, ListRow, Listed};
-use cmd_names::Names;
+use cmd_text::Names;
 use gw_map::Settings;
 use gw_model::ObjectKey;
 use std::alloc::{AllocError, Global};

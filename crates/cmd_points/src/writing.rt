@@ -2,8 +2,8 @@
 
 use crate::matching::RowsOf;
 use cmd_lists::{COLUMNS, List, ListRow};
-use cmd_names::{OTHER_SEPARATOR, wants_apostrophe};
 use cmd_profile::{control_word, kind_word, mode_word, show_word};
+use cmd_text::{OTHER_SEPARATOR, wants_apostrophe};
 use csv::{Writer, WriterBuilder};
 use gw_map::{Control, Operates, Outstation, Pulses, Rest, Row, Scale, Settings, Show};
 use std::alloc::{AllocError, Global};

@@ -19,8 +19,7 @@ mod text;
 mod types;
 mod words;
 
-pub use cmd_names::{Behind, Names};
-pub use cmd_text::Plain;
+pub use cmd_text::{Behind, Names, Plain};
 pub use gw_map::{
     Absence, Control, Fault, Key, KeyContent, KeyName, KeyPlace, OUTSTATIONS, Operates, Outstation,
     ROWS, Row, Section, Settings, SettingsFault, Show, Station, keys_of,

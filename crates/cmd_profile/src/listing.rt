@@ -1,7 +1,7 @@
 //! The lines that list the points and the controls of settings.
 
 use crate::words::{control_word, kind_word, mode_word, show_word};
-use cmd_names::{Behind, Names};
+use cmd_text::{Behind, Names};
 use gw_map::{Control, Row, Settings};
 use std::io::{self, Write};
 

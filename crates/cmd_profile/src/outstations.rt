@@ -1,7 +1,7 @@
 //! The side of the outstations: what the gateway does as a master of DNP3, and how each outstation is reached and polled.
 
 use crate::form::{Cell, Column, Form};
-use cmd_names::Names;
+use cmd_text::Names;
 use gw_map::{Control, Mode, Outstation, Settings};
 use gw_model::Poll;
 use std::io;

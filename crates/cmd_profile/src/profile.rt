@@ -7,7 +7,7 @@ use crate::outstations::write_outstations;
 use crate::sheet::write_sheet;
 use crate::signals::{write_controls, write_points};
 use crate::text::TextForm;
-use cmd_names::Names;
+use cmd_text::Names;
 use gw_map::Settings;
 use std::alloc::Global;
 use std::io::{self, Write};

@@ -3,7 +3,7 @@
 use crate::form::{Cell, Column, Form};
 use crate::types::{command_type, point_types};
 use crate::words::mode_word;
-use cmd_names::Names;
+use cmd_text::Names;
 use gw_map::{Control, Operates, Row, Show};
 use gw_model::{Kind, PointKey};
 use std::io;

@@ -5,3 +5,4 @@ pub mod Replies
 pub mod Place
 pub mod Replay
 pub mod KeptLaws
+pub mod FragmentText

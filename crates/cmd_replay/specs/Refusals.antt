@@ -2,7 +2,7 @@
 use Rattle.std.specs.Prelude.{ℕ, List, [], ◌∷◌, ◌++◌, codes}
 use Rattle.iec_apci.specs.declared.fault.ApciFault.{ApciFault}
 use Rattle.iec_apci.specs.declared.fault.ApciFault.TheVariants.{Start, Length, Control}
-use Rattle.cmd_text.specs.Text.{refusal_text}
+use Rattle.cmd_replay.specs.FragmentText.{refusal_text}
 use Rattle.cmd_replay.specs.declared.refusal.StepRefusal.{StepRefusal}
 use Rattle.cmd_replay.specs.declared.refusal.StepRefusal.TheVariants.{Fragment, Frame, Partial}
 

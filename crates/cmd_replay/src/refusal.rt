@@ -3,7 +3,7 @@ ghost use Rattle.std.specs.Prelude.{◌≡◌, OnOk};
 ghost use Rattle.std.specs.Io.KnownBytes.{Appends};
 ghost use Rattle.cmd_replay.specs.Refusals.{apci_line, refused_line};
 
-use cmd_text::write_refusal;
+use crate::fragment_text::write_refusal;
 use dnp_app::AppFault;
 use iec_apci::ApciFault;
 use std::io::{self, Write};

@@ -4,4 +4,3 @@ pub mod Hex
 pub mod Lines
 pub mod Reading
 pub mod Status
-pub mod Text

@@ -42,7 +42,7 @@ use Rattle.gw_answers.specs.declared.outgoing.AsduAnswer.TheVariants.{Made}
 use Rattle.gw_answers.specs.Answers.{command_by, control_command}
 use Rattle.gw_station.specs.declared.event.Event.{Event}
 use Rattle.gw_station.specs.declared.event.Event.TheVariants as events
-use Rattle.gw_station.specs.declared.event.Why.{Why}
+use Rattle.iec_apci.specs.declared.why.Why.{Why}
 use Rattle.gw_station.specs.declared.event.Said.{Said}
 use Rattle.gw_station.specs.declared.event.Said.TheVariants as saids
 use Rattle.gw_station.specs.declared.client.Stage.TheVariants.{Stopped, Started}

@@ -10,7 +10,7 @@ use Rattle.gw_steps.specs.Carried.{AreMeant, IsMeant}
 use Rattle.gw_steps.specs.State.{State}
 use Rattle.gw_steps.specs.Runs.{Entry, history}
 use Rattle.gw_steps.proofs.Running.{Ran, run_all}
-use Rattle.law_history.specs.Premises.{HasKnownRows, IsSoundRun, IsSoundSetup}
+use Rattle.gw_steps.specs.Premises.{HasKnownRows, IsSoundRun, IsSoundSetup}
 use Rattle.gw_hub.proofs.Each.{all_taken}
 
 -- the history that steps make

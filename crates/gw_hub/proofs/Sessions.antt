@@ -13,7 +13,7 @@ use Rattle.iec_apci.specs.declared.apdu.Apdu.TheVariants.{I, S, U}
 use Rattle.iec_apci.specs.declared.apdu.Signal.{Signal}
 use Rattle.iec_apci.specs.declared.apdu.Signal.TheVariants.{StartAct, StopAct}
 use Rattle.iec_window.specs.declared.limits.Limits.{Limits}
-use Rattle.gw_station.specs.declared.event.Why.{Why}
+use Rattle.iec_apci.specs.declared.why.Why.{Why}
 use Rattle.gw_station.specs.declared.sending.Sending.{Sending}
 use Rattle.gw_station.specs.declared.sending.Sending.TheVariants as sendings
 use Rattle.gw_station.specs.Client.{Client, client_after_close, client_after_tick, client_after_up}

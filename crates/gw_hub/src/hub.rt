@@ -12,7 +12,7 @@ ghost use Rattle.gw_steps.specs.Controls.{order_due};
 ghost use Rattle.gw_steps.specs.Steps.{can_order, can_rise, client_up, command_of, is_accepting, is_beginning};
 ghost use Rattle.gw_steps.specs.Steps.{is_ordering, latest, one_if, order_ended, reply_of_event};
 ghost use Rattle.gw_steps.specs.Runs.{history, state_after, IsRun, KeepsAtEach};
-ghost use Rattle.law_history.specs.Premises.{HasKnownRows, IsSoundRun, IsSoundSetup};
+ghost use Rattle.gw_steps.specs.Premises.{HasKnownRows, IsSoundRun, IsSoundSetup};
 ghost use Rattle.law_clients.specs.Connections.{Connections};
 ghost use Rattle.law_clients.specs.Promises.{Promises};
 ghost use Rattle.law_orders.specs.Bonds.{Bonds, HasShortIndex};

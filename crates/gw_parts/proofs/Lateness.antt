@@ -10,7 +10,7 @@ use Rattle.dnp_master.specs.Answers.{is_unanswered}
 use Rattle.dnp_master.specs.Master.{Master, ended_by_tick}
 use Rattle.gw_control.specs.declared.accepted.UnderWay.{UnderWay}
 use Rattle.gw_control.specs.Orders.{Outgoing, is_named}
-use Rattle.gw_steps.specs.declared.effects.Fate.{Fate}
+use Rattle.dnp_master.specs.declared.fate.Fate.{Fate}
 use Rattle.gw_steps.specs.declared.effects.OrderEnd.{OrderEnd}
 use Rattle.gw_steps.specs.Effects.{end_at, end_of, late, order_end, where_so, Telling}
 use Rattle.gw_steps.proofs.Ending.{none_at}

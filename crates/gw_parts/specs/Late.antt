@@ -3,7 +3,7 @@ use Rattle.std.specs.Prelude.{ℕ, List, ◌++◌, Option, option_map}
 use Rattle.dnp_master.specs.Master.{Master, ended_by_tick}
 use Rattle.dnp_master.specs.Answers.{operation_awaited}
 use Rattle.gw_control.specs.Orders.{Outgoing}
-use Rattle.gw_steps.specs.declared.effects.Fate.TheVariants.{Unanswered}
+use Rattle.dnp_master.specs.declared.fate.Fate.TheVariants.{Unanswered}
 use Rattle.gw_steps.specs.declared.effects.OrderEnd.{OrderEnd}
 use Rattle.gw_steps.specs.Effects.{end_at, Telling}
 

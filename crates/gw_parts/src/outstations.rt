@@ -10,7 +10,7 @@ ghost use Rattle.dnp_master.specs.Fragments.{master_after_fragment};
 ghost use Rattle.gw_parts.specs.Lending.{LendsMaster};
 ghost use Rattle.dnp_master.specs.Answers.{is_unanswered, operation_awaited};
 ghost use Rattle.gw_steps.specs.Controls.{ended_lost};
-ghost use Rattle.gw_steps.specs.declared.effects.Fate.TheVariants.{Unanswered};
+ghost use Rattle.dnp_master.specs.declared.fate.Fate.TheVariants.{Unanswered};
 ghost use Rattle.gw_control.specs.Controls.{order_at};
 ghost use Rattle.gw_steps.specs.Effects.{due_from, late, one_where, where_so, with_due};
 ghost use Rattle.gw_steps.specs.Queries.{is_poll_due_of};

@@ -9,9 +9,8 @@ mod shown;
 use crate::running::run;
 use clap::error::ErrorKind;
 use cmd_line::{Asked, LineFault, VERSION, command_line as read_words};
-use cmd_programs::{
-    CheckForm, USAGE, check, commit_of, pcap, points, refuse_for, replay, translate,
-};
+use cmd_programs::{CheckForm, USAGE, check, commit_of, points, refuse_for};
+use cmd_streams::{pcap, replay, translate};
 use run_server::System;
 use std::net::{Net, TcpListener, TcpStream};
 use std::process::ExitCode;

@@ -6,7 +6,7 @@ use Rattle.gw_map.specs.Settings.{Setup}
 use Rattle.iec_apci.specs.declared.apdu.Apdu.TheVariants.{S}
 use Rattle.iec_window.specs.Sequence.{is_right_send, is_right_receive}
 use Rattle.gw_judge.specs.declared.judging.Judged.{Judged}
-use Rattle.gw_station.specs.declared.event.Why.TheVariants.{Sequence, NotStarted, Malformed, Flooded, Timer}
+use Rattle.iec_apci.specs.declared.why.Why.TheVariants.{Sequence, NotStarted, Malformed, Flooded, Timer}
 use Rattle.gw_station.specs.Client.{Client, is_started as is_in_session, is_timed_out, close_by_tick}
 use Rattle.gw_station.specs.Frames.{close_of, closes_judged, is_malformed, overfills}
 

@@ -25,7 +25,7 @@ use Rattle.gw_answers.specs.declared.outgoing.OwnAsdu.TheVariants as outgoing
 use Rattle.gw_answers.specs.declared.outgoing.OwnAsdu.{OwnAsdu}
 use Rattle.gw_answers.specs.Interrogations.{is_accepted_act, is_general}
 use Rattle.gw_answers.specs.Answers.{places_for, refused_act, shown_at, answered_action, answered, command_by, control_command}
-use Rattle.gw_station.specs.declared.event.Why.TheVariants.{Flooded}
+use Rattle.iec_apci.specs.declared.why.Why.TheVariants.{Flooded}
 use Rattle.gw_station.specs.Client.{Client, is_started}
 use Rattle.gw_station.specs.Answers.{is_asking, is_pending, answers_with, client_judging, older_with, places, places_taken, rest_with}
 use Rattle.gw_station.specs.Frames.{floods, closes_judged, confirmations_with, event_taking, HasPlace}

@@ -13,8 +13,8 @@ use Rattle.gw_answers.specs.declared.outgoing.AsduAnswer.{AsduAnswer}
 use Rattle.gw_answers.specs.declared.outgoing.OwnAsdu.{OwnAsdu}
 use Rattle.gw_station.specs.declared.client.Stage.{Stage}
 use Rattle.gw_station.specs.declared.client.Stage.TheVariants.{Down, Stopped, Started}
-use Rattle.gw_station.specs.declared.event.Why.{Why}
-use Rattle.gw_station.specs.declared.event.Why.TheVariants.{Timer}
+use Rattle.iec_apci.specs.declared.why.Why.{Why}
+use Rattle.iec_apci.specs.declared.why.Why.TheVariants.{Timer}
 
 pub record Client : Type 0 where
   pub stage : Stage

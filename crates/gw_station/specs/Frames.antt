@@ -20,8 +20,8 @@ use Rattle.gw_judge.specs.declared.judging.Judged.TheVariants as judgements
 use Rattle.gw_station.specs.declared.client.Stage.TheVariants.{Stopped, Started}
 use Rattle.gw_station.specs.declared.event.Event.{Event}
 use Rattle.gw_station.specs.declared.event.Event.TheVariants as events
-use Rattle.gw_station.specs.declared.event.Why.{Why}
-use Rattle.gw_station.specs.declared.event.Why.TheVariants.{Sequence, NotStarted, Malformed, Flooded}
+use Rattle.iec_apci.specs.declared.why.Why.{Why}
+use Rattle.iec_apci.specs.declared.why.Why.TheVariants.{Sequence, NotStarted, Malformed, Flooded}
 use Rattle.gw_station.specs.Client.{Client, is_started, client_anew, client_after_close, most_confirmations}
 use Rattle.gw_answers.specs.Answers.{places_for, command_by}
 use Rattle.gw_station.specs.Answers.{is_pending, client_judging, is_asking, places, places_taken}

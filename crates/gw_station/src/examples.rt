@@ -7,7 +7,7 @@ ghost use Rattle.iec_apci.specs.Apdu.{Information, Supervisory, Unnumbered};
 ghost use Rattle.iec_window.specs.Examples.{usual};
 ghost use Rattle.gw_station.specs.declared.client.Stage.TheVariants.{Down, Started, Stopped};
 ghost use Rattle.gw_station.specs.declared.event.Event.TheVariants.{Closed, Taken};
-ghost use Rattle.gw_station.specs.declared.event.Why.TheVariants.{Flooded, Malformed, NotStarted, Sequence};
+ghost use Rattle.iec_apci.specs.declared.why.Why.TheVariants.{Flooded, Malformed, NotStarted, Sequence};
 ghost use Rattle.gw_station.specs.Client.{client_after_close, client_after_tick, client_after_up};
 ghost use Rattle.gw_station.specs.Client.{client_down, client_with_news, is_timed_out};
 ghost use Rattle.gw_station.specs.Frames.{begins, client_after_apdu, close_of, event_of};

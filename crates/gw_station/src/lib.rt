@@ -17,7 +17,8 @@ mod sending;
 mod station;
 
 pub use client::Stage;
-pub use event::{Event, Said, Why};
+pub use event::{Event, Said};
+pub use iec_apci::Why;
 pub use news_piece::NewsPiece;
 pub use ring::NewsRing;
 pub use sending::Sending;

@@ -11,14 +11,13 @@ ghost use Rattle.gw_answers.specs.Octets.{IsReturnable};
 
 use crate::client::Stage;
 use crate::cursor::Cursor;
-use crate::event::Why;
 use crate::queue::refill;
 use crate::rest::PartsLeft;
 use crate::ring::NewsRing;
 use circular_buffer::HeapCircularBuffer;
 use gw_answers::AsduAnswer;
 use gw_model::Memory;
-use iec_apci::Signal;
+use iec_apci::{Signal, Why};
 use iec_window::{Limits, Window};
 use std::alloc::Global;
 use std::marker::Model;

@@ -8,8 +8,8 @@ use Rattle.std.proofs.Common.{refl, sym, ap, ◌∙◌, append_assoc, append-nil
 use Rattle.gw_model.specs.declared.control.Ended.{Ended}
 use Rattle.gw_control.specs.declared.accepted.Accepted.{Accepted}
 use Rattle.gw_control.specs.Orders.{Outgoing}
-use Rattle.gw_steps.specs.declared.effects.Fate.{Fate}
-use Rattle.gw_steps.specs.declared.effects.Fate.TheVariants.{LetGo}
+use Rattle.dnp_master.specs.declared.fate.Fate.{Fate}
+use Rattle.dnp_master.specs.declared.fate.Fate.TheVariants.{LetGo}
 use Rattle.gw_steps.specs.declared.effects.OrderEnd.{OrderEnd}
 use Rattle.gw_steps.specs.Effects.{end_at, end_of, is_of_leaving, let_go, order_end, with_ends, Telling}
 

@@ -30,9 +30,9 @@ use Rattle.gw_station.specs.declared.event.Event.{Event}
 use Rattle.gw_station.specs.declared.event.Event.TheVariants as events
 use Rattle.gw_steps.specs.Kinds.{kind_of}
 use Rattle.gw_steps.specs.declared.apdu_kind.ApduKind.{ApduKind}
-use Rattle.gw_steps.specs.declared.effects.Reported.{Reported}
-use Rattle.gw_steps.specs.declared.effects.Fate.{Fate}
-use Rattle.gw_steps.specs.declared.effects.Fate.TheVariants as fates
+use Rattle.dnp_master.specs.declared.reported.Reported.{Reported}
+use Rattle.dnp_master.specs.declared.fate.Fate.{Fate}
+use Rattle.dnp_master.specs.declared.fate.Fate.TheVariants as fates
 use Rattle.gw_steps.specs.declared.effects.OrderEnd.{OrderEnd}
 use Rattle.gw_steps.specs.declared.effects.Judged.{Judged}
 use Rattle.gw_steps.specs.declared.step.Step.{Step}

@@ -22,7 +22,7 @@ use Rattle.gw_steps.specs.declared.step.Step.TheVariants as steps
 use Rattle.gw_steps.specs.State.{State, at_first}
 use Rattle.gw_steps.specs.Steps.{after}
 use Rattle.gw_steps.specs.Effects.{effects_of}
-use Rattle.gw_steps.specs.declared.effects.Fate.{Fate}
+use Rattle.dnp_master.specs.declared.fate.Fate.{Fate}
 use Rattle.gw_steps.specs.declared.effects.OrderEnd.{OrderEnd}
 
 abbrev pub setup : Setup

@@ -9,3 +9,5 @@ pub mod Sound
 pub mod Carried
 pub mod Said
 pub mod Example
+pub mod Answers
+pub mod Premises

@@ -3,18 +3,7 @@ ghost use Rattle.std.specs.Prelude.{◌≡◌, slice_get};
 ghost use Rattle.gw_steps.specs.Kinds.{kind_in, kind_of, kind_read, object_address, operates, unknown_in};
 
 use iec_apci::{Apdu, Signal};
-use iec_command::{Action, Command, CommandFault, read_command};
-
-/// An ASDU of a type that isn't known in control direction.
-#[derive(Clone, Copy)]
-pub struct UnknownAsdu {
-    /// Its type identification.
-    pub identification: u8,
-    /// Its common address.
-    pub common_address: u16,
-    /// The address of its first object, where its octets have one.
-    pub address: Option<u32>,
-}
+use iec_command::{Action, Command, CommandFault, UnknownAsdu, read_command};
 
 /// What an APDU of a client is.
 #[derive(Clone, Copy)]

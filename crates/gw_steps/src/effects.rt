@@ -4,7 +4,7 @@ ghost use Rattle.std.specs.Prelude.{length, map, slice_get, slice_index, IfOk, S
 ghost use Rattle.std.specs.List.{filter};
 ghost use Rattle.std.specs.Option.{option_to_list};
 ghost use Rattle.gw_model.specs.Places.{change};
-ghost use Rattle.gw_steps.specs.declared.effects.Fate.TheVariants.{LetGo, Lost};
+ghost use Rattle.dnp_master.specs.declared.fate.Fate.TheVariants.{LetGo, Lost};
 ghost use Rattle.gw_steps.specs.Effects.{end_at, end_of, event_count, fate_taken, is_of_leaving};
 ghost use Rattle.gw_steps.specs.Effects.{is_so, let_go, lost_of, no_effects, only, order_end};
 ghost use Rattle.gw_steps.specs.Effects.{reported_by, with_due, with_ends, Telling};
@@ -12,7 +12,7 @@ ghost use Rattle.gw_steps.specs.Effects.{reported_by, with_due, with_ends, Telli
 use crate::apdu_kind::ApduKind;
 use circular_buffer::HeapCircularBuffer;
 use dnp_app::{Operation, Response};
-use dnp_master::{CommandAnswer, Taken, Task};
+use dnp_master::{CommandAnswer, Fate, Reported, Taken, Task};
 use gw_control::{Accepted, Answer, Outgoing, Refusal, UnderWay};
 use gw_model::{CLIENTS, Ended, Memory, Report};
 use iec_command::Command;
@@ -21,23 +21,6 @@ use std::marker::Model;
 
 /// How many orders of an outstation may end at once: 16 that wait, and the one that is under way.
 const ORDERS: usize = 17;
-
-/// What became of an order.
-#[derive(Clone, Copy)]
-pub enum Fate {
-    /// The outstation did it.
-    Done,
-    /// The outstation gave the command of this request back with this control status, which isn't 0.
-    Refused(Operation, u8),
-    /// The outstation answered this request, and didn't give its command back.
-    Otherwise(Operation),
-    /// No answer to this request came in time.
-    Unanswered(Operation),
-    /// The outstation was lost.
-    Lost,
-    /// The session of its client ended before it was given.
-    LetGo,
-}
 
 /// An order that ended.
 #[derive(Clone, Copy)]
@@ -61,21 +44,6 @@ pub struct Judged {
     pub answer: Answer,
     /// Why it is confirmed negatively, if it is.
     pub refusal: Option<Refusal>,
-}
-
-/// What a fragment said that was accepted, but for what its points are.
-#[derive(Clone, Copy)]
-pub struct Reported {
-    /// The task whose request it answers; none of an unsolicited response.
-    pub answers: Option<Task>,
-    /// IIN1 and IIN2 (IEEE Std 1815, 4.2.2.6).
-    pub indications: [u8; 2],
-    /// Whether it was an unsolicited response.
-    pub is_unsolicited: bool,
-    /// How many observations it had.
-    pub observations: usize,
-    /// How many of them were events.
-    pub events: usize,
 }
 
 /// What the newest step did besides what it replied. There is room for all that a step may do, so it takes no memory.

@@ -5,7 +5,7 @@ ghost use Rattle.gw_steps.specs.declared.step.Reply.TheVariants as replies;
 ghost use Rattle.gw_steps.specs.declared.step.StepFault.TheVariants.{NoOutstation, NoClient, NotUp, AlreadyUp, Spent};
 ghost use Rattle.dnp_master.specs.declared.verdict.Verdict.TheVariants as verdicts;
 ghost use Rattle.dnp_master.specs.declared.verdict.Ignored.TheVariants.{NoRequest};
-ghost use Rattle.gw_station.specs.declared.event.Why.TheVariants.{Flooded};
+ghost use Rattle.iec_apci.specs.declared.why.Why.TheVariants.{Flooded};
 ghost use Rattle.dnp_app.specs.Requests.{read_octets, request};
 ghost use Rattle.iec_apci.specs.Buffer.{buffer};
 ghost use Rattle.iec_apci.specs.declared.apdu.Apdu.TheVariants.{S, U};
@@ -19,7 +19,7 @@ ghost use Rattle.gw_steps.specs.Steps.{needs, outcome, outcomes_of_loss, parts_a
 ghost use Rattle.dnp_app.specs.declared.operation.Operation.TheVariants.{DirectOperate, Select};
 ghost use Rattle.dnp_master.specs.declared.task.Task.TheVariants as tasks;
 ghost use Rattle.gw_steps.specs.declared.apdu_kind.ApduKind.TheVariants as kinds;
-ghost use Rattle.gw_steps.specs.declared.effects.Fate.TheVariants as fates;
+ghost use Rattle.dnp_master.specs.declared.fate.Fate.TheVariants as fates;
 ghost use Rattle.gw_steps.specs.Effects.{effects_of, no_client};
 ghost use Rattle.gw_steps.specs.Kinds.{kind_in};
 ghost use Rattle.gw_steps.specs.Example.{after_steps, ahead, answer, beginning, connect, control_of, counting, down};

@@ -3,6 +3,7 @@
 //! above the hub knows it as a `Machine`.
 #![tactic(auto)]
 
+mod answer;
 mod apdu_kind;
 mod effects;
 mod examples;
@@ -10,13 +11,15 @@ mod machine;
 mod pumps;
 mod step;
 
-pub use apdu_kind::{ApduKind, UnknownAsdu};
-pub use dnp_master::{Ignored, Task, Verdict};
-pub use effects::{Effects, Fate, Judged, OrderEnd, Reported, fate_answered, only};
+pub use answer::apdu_in;
+pub use apdu_kind::ApduKind;
+pub use dnp_master::{Fate, Ignored, Reported, Task, Verdict};
+pub use effects::{Effects, Judged, OrderEnd, fate_answered, only};
 pub use examples::{interrogations_by_example, replies_by_example, runs_by_example};
 pub use gw_control::{Accepted, Outgoing};
-pub use gw_station::{NewsPiece, Why};
-pub use iec_apci::{Apdu, ApduBuf, Signal};
+pub use gw_station::NewsPiece;
+pub use iec_apci::{Apdu, ApduBuf, Signal, Why};
+pub use iec_command::UnknownAsdu;
 pub use machine::Machine;
 pub use pumps::Pumps;
 pub use step::{Reply, Step, StepFault, StepKind};

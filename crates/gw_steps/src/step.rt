@@ -6,8 +6,7 @@ ghost use Rattle.gw_steps.specs.Steps.{moment_of};
 
 use dnp_app::{Request, Response};
 use dnp_master::Verdict;
-use gw_station::Why;
-use iec_apci::{Apdu, ApduBuf};
+use iec_apci::{Apdu, ApduBuf, Why};
 
 /// One event. Outstations and clients go by their position in the settings, moments are in
 /// milliseconds.

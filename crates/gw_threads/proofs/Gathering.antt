@@ -15,7 +15,7 @@ use Rattle.run_shared.specs.Pumping.{ArePumped, IsGivenTo, IsPumpedRun, PumpsAll
 use Rattle.run_shared.specs.declared.pumped.Pumped.{Pumped}
 use Rattle.run_shared.specs.declared.pumped.Pumped.TheVariants as pumps
 use Rattle.run_shared.proofs.Pumping.{given_pumped}
-use Rattle.run_ends.proofs.Joined.{joined-append}
+use Rattle.iec_apci.proofs.Joined.{joined-append}
 use Rattle.run_ends.specs.declared.putting.Gathered.{Gathered}
 use Rattle.std.proofs.Math.Seq.{take-append-add}
 use Rattle.std.proofs.lemmas.List.{append-nil}

@@ -4,7 +4,7 @@ use Rattle.iec_apci.specs.declared.buffer.ApduBuf.{ApduBuf}
 use Rattle.gw_map.specs.Settings.{Setup}
 use Rattle.run_shared.specs.Reached.{entries_of}
 use Rattle.run_shared.specs.Turn.{Pass}
-use Rattle.run_ends.specs.Octets.{joined}
+use Rattle.iec_apci.specs.Joined.{joined}
 use Rattle.run_ends.specs.declared.worker_end.WorkerEnd.TheVariants.{Stopping, WriteFault}
 use Rattle.gw_threads.specs.Calls.{AreCalls, Call, all_given, given_by}
 use Rattle.gw_threads.specs.Written.{AreAll, Asked, Writes, apdu_given, is_pump}

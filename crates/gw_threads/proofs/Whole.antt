@@ -6,7 +6,7 @@ use Rattle.iec_apci.specs.declared.buffer.ApduBuf.{ApduBuf}
 use Rattle.iec_apci.specs.Apdu.{ApduContent}
 use Rattle.iec_apci.specs.Stream.{Ending, Faulty, Open, reading}
 use Rattle.gw_steps.specs.Said.{only_one, said_by}
-use Rattle.run_ends.specs.Octets.{octets_in}
+use Rattle.iec_apci.specs.Joined.{octets_in}
 use Rattle.gw_threads.specs.Carries.{SaysFit}
 use Rattle.gw_threads.specs.Whole.{IsWhole}
 use Rattle.gw_threads.specs.Written.{IsPutOut}

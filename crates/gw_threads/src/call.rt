@@ -3,8 +3,7 @@ ghost use Rattle.std.specs.Prelude.{◌≡◌, ℕ};
 ghost use Rattle.run_shared.specs.Roles.{MayMake};
 ghost use Rattle.run_shared.specs.Turn.{Answers};
 
-use crate::observer::Observer;
-use run_shared::{Calls, Course, Pass, Reply, Step, StepFault};
+use run_shared::{Calls, Course, Observer, Pass, Reply, Step, StepFault};
 use std::sync::Wait;
 
 /// Makes a step on the shared core, and tells an observer of it. Gives the reply.

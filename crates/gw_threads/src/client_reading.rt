@@ -5,12 +5,11 @@ ghost use Rattle.run_ends.specs.Ends.{is_read_fault, IsOfSteps, MayEnd};
 ghost use Rattle.run_shared.specs.Turn.{Pass as Seen};
 ghost use Rattle.gw_threads.specs.Frames.{end_by, Asks, Frames, Loses, Reads, Takes, TakesAnswer};
 
-use crate::gate::{Gate, Place};
 use crate::worker::Worker;
 use iec_apci::{ApciFault, Apdu, ApduFeed};
 use run_clock::Clock;
 use run_ends::{Arrival, Incoming, WorkerEnd};
-use run_shared::{Calls, Course, Pass, Reply, Step, StepFault};
+use run_shared::{Calls, Course, Gate, Pass, Place, Reply, Step, StepFault};
 use std::alloc::Global;
 use std::sync::Wait;
 

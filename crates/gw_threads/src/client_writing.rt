@@ -8,11 +8,10 @@ ghost use Rattle.gw_threads.specs.Written.{AreAll, Asked, Settles, TellsLoss, Wr
 ghost use Rattle.gw_threads.specs.Written.{gathered_by, GivesTo};
 
 use crate::awaited::Awaited;
-use crate::gate::{Gate, Place};
 use crate::worker::Worker;
 use run_clock::Clock;
 use run_ends::{Batch, Gathered, Outgoing, Put, Source, WorkerEnd, put_out};
-use run_shared::{Calls, Course, Pass, Pumped, Pumps};
+use run_shared::{Calls, Course, Gate, Pass, Place, Pumped, Pumps};
 use std::marker::Model;
 use std::sync::Wait;
 

@@ -2,7 +2,7 @@
 ghost use Rattle.std.specs.Prelude.{◌≡◌, ◌++◌, ℕ, Bool, List, Some, take};
 ghost use Rattle.iec_apci.specs.declared.buffer.ApduBuf.{ApduBuf};
 ghost use Rattle.run_log.specs.Follows.{Known};
-ghost use Rattle.run_ends.specs.Octets.{joined, octets_in};
+ghost use Rattle.iec_apci.specs.Joined.{joined, octets_in};
 ghost use Rattle.run_ends.specs.declared.sent.Sending.{Sending};
 ghost use Rattle.run_ends.specs.declared.worker_end.WorkerEnd.TheVariants.{Stopping, WriteFault};
 ghost use Rattle.gw_map.specs.Settings.{Setup};

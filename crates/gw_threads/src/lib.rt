@@ -9,10 +9,8 @@ mod call;
 mod client_reading;
 mod client_writing;
 pub mod examples;
-mod gate;
 pub mod laws;
 mod link_check;
-mod observer;
 mod outstation_reading;
 mod outstation_writing;
 pub mod reading_examples;
@@ -25,9 +23,7 @@ pub use awaited::Awaited;
 pub use call::make_call;
 pub use client_reading::{ClientReader, client_reader};
 pub use client_writing::{ClientWriter, client_writer};
-pub use gate::{FrameHeader, Gate, OpenGate, Place};
 pub use link_check::LinkCheck;
-pub use observer::Observer;
 pub use outstation_reading::{OutstationReader, Patience, outstation_reader};
 pub use outstation_writing::{OutstationWriter, outstation_writer};
 pub use run_clock::Clock;
@@ -37,10 +33,11 @@ pub use run_ends::{
 };
 pub use run_shared::{
     Answer, ApduKind, Bell, Calls, CloseFault, Closed, Core, Course, Effects, Entry, Fate, Figures,
-    Judged, Kept, KeptStep, Load, Machine, Made, NewsPiece, Opened, OrderCounts, OrderEnd, Pass,
-    PumpRun, Pumped, Pumps, Recorder, Refusal, Reply, Reported, Shared, Step, StepFault, StepKind,
-    Task, UnknownAsdu, Verdict, Why, open_course, order_accepted,
+    FrameHeader, Gate, Judged, Kept, KeptStep, Load, Machine, Made, NewsPiece, Observer, OpenGate,
+    Opened, OrderCounts, OrderEnd, Pass, Place, PumpRun, Pumped, Pumps, Recorder, Refusal, Reply,
+    Reported, Shared, Step, StepFault, StepKind, Task, UnknownAsdu, Verdict, Why, open_course,
+    order_accepted, pause,
 };
 pub use standstill::Turns;
-pub use ticking::{clock, pause};
+pub use ticking::clock;
 pub use worker::Worker;

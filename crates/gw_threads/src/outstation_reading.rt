@@ -9,7 +9,6 @@ ghost use Rattle.gw_threads.specs.Sends.{TellsOutstationLoss};
 ghost use Rattle.gw_threads.specs.Confirms.{confirmation_in, Confirms, ReadsFurther, ReadsOn};
 ghost use Rattle.gw_threads.specs.Heard.{Hears, HearsFrames, HearsOctets, HearsOf, HearsPiece, IsDrained};
 
-use crate::gate::{FrameHeader, Gate, Place};
 use crate::link_check::{LinkCheck, Look};
 use crate::worker::Worker;
 use dnp_app::{AppFault, Response, read_response};
@@ -17,7 +16,9 @@ use dnp_link::{Frame, LinkEvent, LinkFeed};
 use dnp_receive::Receiver;
 use run_clock::Clock;
 use run_ends::{Arrival, Front, Incoming, Line, LineCourse, Outgoing, Sending, WorkerEnd};
-use run_shared::{Bell, Calls, Course, Load, Pass, Reply, Step, StepFault, Verdict};
+use run_shared::{
+    Bell, Calls, Course, FrameHeader, Gate, Load, Pass, Place, Reply, Step, StepFault, Verdict,
+};
 use std::alloc::Global;
 use std::cell::Cell;
 use std::sync::Wait;

@@ -6,12 +6,11 @@ ghost use Rattle.run_shared.specs.Turn.{Pass as Seen};
 ghost use Rattle.gw_threads.specs.Sends.{is_request, PollsOnce, SendsAll, SendsAllGiven, SentAll, TellsOutstationLoss};
 
 use crate::awaited::Awaited;
-use crate::gate::{Gate, Place};
 use crate::worker::Worker;
 use dnp_app::Request;
 use run_clock::Clock;
 use run_ends::{Front, Line, LineCourse, Outgoing, Sending, WorkerEnd};
-use run_shared::{Calls, Course, Pass, Reply, Step, StepFault};
+use run_shared::{Calls, Course, Gate, Pass, Place, Reply, Step, StepFault};
 use std::sync::Wait;
 
 /// The writer towards an outstation.

@@ -7,10 +7,9 @@ ghost use Rattle.gw_threads.specs.Ticking.{Ticks};
 ghost use Rattle.gw_threads.specs.Written.{TellsLoss};
 
 use crate::call::make_call;
-use crate::gate::{Gate, Place};
 use crate::standstill::Turns;
 use run_clock::Clock;
-use run_shared::{Calls, Course, Pass, Reply, Step, StepFault};
+use run_shared::{Calls, Course, Gate, Pass, Place, Reply, Step, StepFault};
 use std::sync::Wait;
 
 /// The milliseconds from one tick to the next.

@@ -9,3 +9,4 @@ pub mod Only
 pub mod Runs
 pub mod Split
 pub mod Drained
+pub mod Joined

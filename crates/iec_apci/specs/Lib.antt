@@ -5,3 +5,4 @@ pub mod Calls
 pub mod Laws
 pub mod Shown
 pub mod Buffer
+pub mod Joined

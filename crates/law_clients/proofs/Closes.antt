@@ -14,8 +14,8 @@ use Rattle.iec_window.specs.Sequence.{is_right_send, is_right_receive}
 use Rattle.gw_judge.specs.declared.judging.Judged.{Judged}
 use Rattle.gw_judge.specs.declared.judging.Judged.TheVariants as judgements
 use Rattle.gw_answers.specs.Answers.{places_for}
-use Rattle.gw_station.specs.declared.event.Why.{Why}
-use Rattle.gw_station.specs.declared.event.Why.TheVariants.{Sequence, NotStarted, Malformed, Flooded}
+use Rattle.iec_apci.specs.declared.why.Why.{Why}
+use Rattle.iec_apci.specs.declared.why.Why.TheVariants.{Sequence, NotStarted, Malformed, Flooded}
 use Rattle.gw_station.specs.Client.{Client, is_started, is_up}
 use Rattle.gw_station.specs.Answers.{is_pending as is_asked, places_taken}
 use Rattle.gw_station.specs.Frames.{close_of, command_in, event_by, event_of, is_malformed as is_cut, judged_asdu, overfills}
@@ -28,7 +28,7 @@ use Rattle.gw_steps.specs.State.{State}
 use Rattle.gw_steps.specs.Steps.{Allowed, outcome, needs, can_be_counted, reply_to, fault_of, client_reply, reply_of_event}
 use Rattle.gw_steps.specs.Runs.{Entry, state_after}
 use Rattle.gw_steps.proofs.Inversion.{answered, who_is_up}
-use Rattle.law_history.specs.Premises.{IsSoundSetup}
+use Rattle.gw_steps.specs.Premises.{IsSoundSetup}
 use Rattle.law_history.specs.Life.{Turn, life, session, turns_in}
 use Rattle.law_history.proofs.Lives.{Lives}
 use Rattle.law_history.proofs.Places.{Known, Place, SlotLives}

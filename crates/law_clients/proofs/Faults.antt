@@ -20,7 +20,7 @@ use Rattle.gw_steps.specs.Runs.{AtEach, Entry, state_after}
 use Rattle.gw_steps.proofs.Inversion.{answered}
 use Rattle.gw_steps.proofs.Running.{entry}
 use Rattle.law_history.specs.Life.{life}
-use Rattle.law_history.specs.Premises.{IsSoundSetup, client_at}
+use Rattle.gw_steps.specs.Premises.{IsSoundSetup, client_at}
 use Rattle.law_history.specs.Up.{is_outstation_up}
 use Rattle.law_history.proofs.Places.{Known, Place, SlotLives}
 use Rattle.law_history.proofs.Ups.{told_up}

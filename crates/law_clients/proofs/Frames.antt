@@ -9,7 +9,7 @@ use Rattle.iec_apci.specs.declared.apdu.Apdu.{Apdu}
 use Rattle.iec_apci.specs.declared.apdu.Apdu.TheVariants.{I, S, U}
 use Rattle.gw_judge.specs.declared.judging.Judged.{Judged}
 use Rattle.gw_judge.specs.declared.judging.Judged.TheVariants as judgements
-use Rattle.gw_station.specs.declared.event.Why.{Why}
+use Rattle.iec_apci.specs.declared.why.Why.{Why}
 use Rattle.gw_station.specs.Client.{Client}
 use Rattle.gw_station.specs.Frames.{judged_asdu}
 use Rattle.gw_steps.specs.declared.step.Step.{Step}
@@ -18,7 +18,7 @@ use Rattle.gw_steps.specs.declared.step.Reply.{Reply}
 use Rattle.gw_steps.specs.declared.step.StepFault.{StepFault}
 use Rattle.gw_steps.specs.Runs.{Entry}
 use Rattle.law_history.specs.Life.{Turn, life, session, turns_in}
-use Rattle.law_history.specs.Premises.{IsSoundSetup, client_at}
+use Rattle.gw_steps.specs.Premises.{IsSoundSetup, client_at}
 use Rattle.law_history.proofs.Places.{Known, Place, SlotLives}
 use Rattle.law_clients.specs.Closes.{Closes, ClosesBy, causes, close_due, is_malformed, is_right_receive, places_with, reply_for}
 use Rattle.law_clients.specs.Connection.{Connection, OfStanding, connection, turns}

@@ -16,7 +16,7 @@ use Rattle.gw_control.specs.Orders.{places}
 use Rattle.gw_control.specs.Controls.{Controls, controls_after_end, controls_after_lost, outcome_lost_at}
 use Rattle.gw_control.specs.Held.{controls_after_losses}
 use Rattle.gw_control.specs.Moves.{Move, Comes, Takes, Ends, Loses, Leaves, after_move, AllCommands}
-use Rattle.gw_station.specs.declared.event.Why.{Why}
+use Rattle.iec_apci.specs.declared.why.Why.{Why}
 use Rattle.gw_station.specs.Client.{Client, is_timed_out}
 use Rattle.gw_station.specs.Frames.{close_of, command_in, event_by}
 use Rattle.gw_station.proofs.All.{all-append}

@@ -35,7 +35,7 @@ use Rattle.law_history.specs.Log.{log_of, news_after_log, news_of_step}
 use Rattle.law_history.specs.Life.{Turn, Idle, Takes, PutsOut, Ends, bringing, nothing_new}
 use Rattle.law_history.specs.Life.{puts_out, turn_taking, turn_giving, is_closed_in, outcomes_in}
 use Rattle.law_history.specs.Life.{outcomes_for, said_in, turn_with, turn_of, lived, life}
-use Rattle.law_history.specs.Premises.{HasKnownRows}
+use Rattle.gw_steps.specs.Premises.{HasKnownRows}
 use Rattle.law_history.proofs.Told.{filter_all}
 use Rattle.law_clients.proofs.KnownCommands.{IsKnownObservation}
 use Rattle.law_clients.proofs.KnownOrders.{IsKnownOutcome, orders_known, outcomes_known}

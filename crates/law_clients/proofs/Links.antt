@@ -16,7 +16,7 @@ use Rattle.gw_steps.specs.Controls.{client_told_all, client_told_of}
 use Rattle.gw_steps.specs.Said.{ApduMeaning, said_by}
 use Rattle.gw_steps.specs.Runs.{Entry}
 use Rattle.law_history.specs.Life.{Brought, Turn, Idle, Takes, PutsOut, Ends}
-use Rattle.law_history.specs.Premises.{client_at}
+use Rattle.gw_steps.specs.Premises.{client_at}
 use Rattle.law_history.proofs.Lives.{Came}
 use Rattle.law_clients.proofs.Numbers.{WindowTied}
 use Rattle.law_clients.proofs.Told.{same_beside}

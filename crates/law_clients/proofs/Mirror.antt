@@ -45,7 +45,7 @@ use Rattle.gw_station.proofs.Moves.{moves}
 use Rattle.gw_steps.specs.Runs.{Entry}
 use Rattle.gw_steps.specs.Said.{ApduMeaning, IFormat}
 use Rattle.law_history.specs.Log.{log_of}
-use Rattle.law_history.specs.Premises.{client_at, IsSoundSetup}
+use Rattle.gw_steps.specs.Premises.{client_at, IsSoundSetup}
 use Rattle.law_history.specs.Life.{Brought, Taking, Turn, Idle, Takes, PutsOut, Ends, session_with, session, life}
 use Rattle.law_history.proofs.Lives.{Lives}
 use Rattle.law_history.proofs.Logged.{IsLogged, logged}

@@ -18,8 +18,8 @@ use Rattle.gw_control.specs.Controls.{is_order}
 use Rattle.gw_judge.specs.declared.judging.Judged.{Judged}
 use Rattle.gw_judge.specs.declared.judging.Judged.TheVariants as judgements
 use Rattle.gw_answers.specs.Interrogations.{is_accepted_act}
-use Rattle.gw_station.specs.declared.event.Why.{Why}
-use Rattle.gw_station.specs.declared.event.Why.TheVariants.{Flooded}
+use Rattle.iec_apci.specs.declared.why.Why.{Why}
+use Rattle.iec_apci.specs.declared.why.Why.TheVariants.{Flooded}
 use Rattle.gw_station.specs.Answers.{is_asking, is_pending as is_asked}
 use Rattle.gw_station.specs.Client.{Client, is_started, is_up}
 use Rattle.gw_station.specs.Frames.{asks, begins as begins_session, close_of, command_given, command_in, floods, judged_asdu}
@@ -35,7 +35,7 @@ use Rattle.gw_steps.proofs.Inversion.{who_is_up}
 use Rattle.law_history.specs.Accepted.{is_accepted}
 use Rattle.law_history.specs.Life.{Turn, life, session, turns_in}
 use Rattle.law_history.specs.Log.{log_of, news_of_step}
-use Rattle.law_history.specs.Premises.{IsSoundSetup}
+use Rattle.gw_steps.specs.Premises.{IsSoundSetup}
 use Rattle.law_history.proofs.Lives.{Lives}
 use Rattle.law_history.proofs.Masters.{MasterTied, same_accepted}
 use Rattle.law_history.proofs.Pictures.{news_same}

@@ -49,7 +49,7 @@ use Rattle.gw_steps.specs.Controls.{client_told_all}
 use Rattle.gw_steps.specs.Steps.{client_answered}
 use Rattle.gw_steps.specs.Runs.{Entry}
 use Rattle.gw_steps.specs.Said.{ApduMeaning}
-use Rattle.law_history.specs.Premises.{client_at}
+use Rattle.gw_steps.specs.Premises.{client_at}
 use Rattle.law_history.specs.Life.{Brought, Taking, Turn, Idle, Takes, PutsOut, Ends, session_with, session, turns_in, life}
 use Rattle.law_history.proofs.Places.{Place, SlotLives, of_each}
 use Rattle.law_history.proofs.Lives.{Becomes, Came, IsFresh, Lives, lives_all}

@@ -19,7 +19,7 @@ use Rattle.gw_control.specs.Controls.{controls_unselecting, is_deactivation, is_
 use Rattle.gw_control.specs.Intents.{control_for}
 use Rattle.gw_control.specs.Orders.{places}
 use Rattle.gw_control.specs.Selections.{is_own, is_select}
-use Rattle.gw_station.specs.declared.event.Why.{Why}
+use Rattle.iec_apci.specs.declared.why.Why.{Why}
 use Rattle.gw_station.specs.Client.{Client, is_timed_out}
 use Rattle.gw_station.specs.Frames.{close_of, command_given, command_in, event_by}
 use Rattle.gw_steps.specs.declared.step.Step.{Step}

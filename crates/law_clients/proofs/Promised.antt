@@ -2,7 +2,7 @@
 use Rattle.std.proofs.Common.{List, [], ◌∷◌}
 use Rattle.gw_map.specs.Settings.{Setup}
 use Rattle.gw_steps.specs.Runs.{Entry, AtEach}
-use Rattle.law_history.specs.Premises.{IsSoundRun}
+use Rattle.gw_steps.specs.Premises.{IsSoundRun}
 use Rattle.law_history.proofs.Confirmed.{confirmed}
 use Rattle.law_history.proofs.Places.{Place, places, of_each}
 use Rattle.law_clients.specs.Line.{KeepsLine}

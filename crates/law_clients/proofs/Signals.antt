@@ -22,7 +22,7 @@ use Rattle.gw_steps.specs.Said.{ApduMeaning, UFormat}
 use Rattle.gw_steps.specs.State.{State}
 use Rattle.gw_steps.specs.Runs.{Entry, state_after}
 use Rattle.law_history.specs.Life.{Taking, Turn, life, Idle, Takes, PutsOut, Ends}
-use Rattle.law_history.specs.Premises.{client_at}
+use Rattle.gw_steps.specs.Premises.{client_at}
 use Rattle.law_history.proofs.Places.{Place, SlotLives}
 use Rattle.law_history.proofs.Told.{sound_at}
 use Rattle.law_clients.proofs.Numbers.{WindowTied, says}

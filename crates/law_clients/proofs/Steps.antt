@@ -20,7 +20,7 @@ use Rattle.iec_window.specs.Steps.{counts_at_start}
 use Rattle.gw_station.specs.declared.event.Event.{Event}
 use Rattle.gw_station.specs.declared.event.Event.TheVariants as events
 use Rattle.gw_station.specs.declared.event.Said.{Said}
-use Rattle.gw_station.specs.declared.event.Why.{Why}
+use Rattle.iec_apci.specs.declared.why.Why.{Why}
 use Rattle.gw_station.specs.declared.sending.Sending.{Sending}
 use Rattle.gw_station.specs.declared.sending.Sending.TheVariants as sendings
 use Rattle.gw_station.specs.Client.{Client, client_down, is_started, is_up, limits_of, client_after_up}
@@ -44,7 +44,7 @@ use Rattle.law_history.specs.Accepted.{moment_after}
 use Rattle.law_history.specs.Life.{Brought, Turn, Idle, Takes, PutsOut, Ends, is_closed_in, life}
 use Rattle.law_history.specs.Life.{lived, nothing_new, said_in, turn_giving, turn_of, turn_taking}
 use Rattle.law_history.specs.Log.{log_of}
-use Rattle.law_history.specs.Premises.{client_at}
+use Rattle.gw_steps.specs.Premises.{client_at}
 use Rattle.law_history.proofs.Clients.{Goes, SlotGoes, all_go, taken_reply, frame_turn}
 use Rattle.law_history.proofs.Tied.{told_moment}
 use Rattle.law_history.proofs.Places.{Known, Place, SlotLives}

@@ -28,7 +28,7 @@ use Rattle.gw_steps.proofs.Inversion.{answered, who_is_up}
 use Rattle.gw_steps.proofs.Saying.{said-content}
 use Rattle.law_history.specs.Accepted.{moment_after}
 use Rattle.law_history.specs.Life.{Turn, life, session, turns_in}
-use Rattle.law_history.specs.Premises.{client_at, IsSoundSetup}
+use Rattle.gw_steps.specs.Premises.{client_at, IsSoundSetup}
 use Rattle.law_history.proofs.Bits.{t1_passed_at, t1_told}
 use Rattle.law_history.proofs.Lives.{Lives}
 use Rattle.law_history.proofs.Places.{Known, Place, SlotLives}

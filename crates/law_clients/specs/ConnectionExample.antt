@@ -9,7 +9,7 @@ use Rattle.iec_apci.specs.declared.apdu.Apdu.TheVariants.{I, U}
 use Rattle.iec_apci.specs.declared.apdu.Signal.TheVariants.{StartAct, TestAct}
 use Rattle.gw_answers.specs.Example.{asdu_with}
 use Rattle.gw_judge.specs.Example.{setpoint}
-use Rattle.gw_station.specs.declared.event.Why.{Why}
+use Rattle.iec_apci.specs.declared.why.Why.{Why}
 use Rattle.gw_station.specs.Example.{reading}
 use Rattle.gw_steps.specs.declared.step.Step.{Step}
 use Rattle.gw_steps.specs.declared.step.Step.TheVariants as steps

@@ -17,7 +17,7 @@ use Rattle.gw_steps.specs.Runs.{Entry, state_after}
 use Rattle.gw_steps.specs.Said.{IFormat}
 use Rattle.law_history.specs.Log.{log_of}
 use Rattle.law_history.specs.Life.{Turn, PutsOut, life, session, turns_in, OfEachLife}
-use Rattle.law_history.specs.Premises.{client_at}
+use Rattle.gw_steps.specs.Premises.{client_at}
 use Rattle.law_clients.specs.Fates.{items_of, is_queued, is_dropped, is_kept, fates, gone}
 
 -- ---- what a station may say

@@ -4,7 +4,7 @@
 ghost use Rattle.std.specs.Prelude.{List};
 ghost use Rattle.gw_map.specs.Settings.{Setup};
 ghost use Rattle.gw_steps.specs.Runs.{AtEach, Entry};
-ghost use Rattle.law_history.specs.Premises.{IsSoundRun};
+ghost use Rattle.gw_steps.specs.Premises.{IsSoundRun};
 ghost use Rattle.law_clients.specs.Connections.{Connections};
 ghost use Rattle.law_clients.specs.Promises.{Promises};
 

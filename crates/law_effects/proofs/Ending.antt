@@ -17,7 +17,7 @@ use Rattle.iec_apci.specs.declared.apdu.Signal.TheVariants.{StartAct, StartCon, 
 use Rattle.iec_command.specs.declared.command.Command.{Command}
 use Rattle.gw_station.specs.declared.event.Event.{Event}
 use Rattle.gw_station.specs.declared.event.Event.TheVariants as events
-use Rattle.gw_station.specs.declared.event.Why.{Why}
+use Rattle.iec_apci.specs.declared.why.Why.{Why}
 use Rattle.gw_station.specs.Client.{Client, is_timed_out, is_up}
 use Rattle.gw_station.specs.Frames.{close_of, command_in, event_by, event_of}
 use Rattle.gw_steps.specs.declared.step.Step.{Step}
@@ -37,7 +37,7 @@ use Rattle.gw_steps.specs.Runs.{AtEach, Entry, IsRun, state_after}
 use Rattle.gw_steps.proofs.Inversion.{answered, who_is_up}
 use Rattle.gw_steps.proofs.Running.{entry}
 use Rattle.law_history.specs.Life.{has_bit}
-use Rattle.law_history.specs.Premises.{IsSoundRun}
+use Rattle.gw_steps.specs.Premises.{IsSoundRun}
 use Rattle.law_history.proofs.Bits.{bit_at, bit_told}
 use Rattle.law_clients.proofs.Clients.{eight_clients}
 use Rattle.law_orders.specs.Sessions.{ends_by, ends_session}

@@ -26,7 +26,7 @@ use Rattle.gw_steps.specs.Steps.{is_accepting, latest}
 use Rattle.gw_steps.specs.Runs.{AtEach, Entry, state_after}
 use Rattle.gw_steps.proofs.Running.{entry, last_place}
 use Rattle.law_history.specs.Accepted.{AskedRequest, asked_at, asked_of}
-use Rattle.law_history.specs.Premises.{IsSoundRun}
+use Rattle.gw_steps.specs.Premises.{IsSoundRun}
 use Rattle.law_history.proofs.Masters.{AwaitsAs, MasterTied}
 use Rattle.law_history.proofs.Places.{Place, places}
 use Rattle.law_history.proofs.Tied.{told_moment}

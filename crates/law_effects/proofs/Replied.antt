@@ -24,7 +24,7 @@ use Rattle.dnp_master.specs.Fragments.{is_done as is_task_done, is_last, verdict
 use Rattle.dnp_master.specs.Master.{Master, ended}
 use Rattle.gw_control.specs.declared.accepted.UnderWay.{UnderWay}
 use Rattle.gw_control.specs.Orders.{Outgoing, is_named}
-use Rattle.gw_steps.specs.declared.effects.Fate.{Fate}
+use Rattle.dnp_master.specs.declared.fate.Fate.{Fate}
 use Rattle.gw_steps.specs.declared.step.Step.{Step}
 use Rattle.gw_steps.specs.declared.step.Step.TheVariants as steps
 use Rattle.gw_steps.specs.declared.step.Reply.{Reply}
@@ -37,7 +37,7 @@ use Rattle.gw_steps.specs.Steps.{Allowed, accepted_by, can_be_counted, fault_of,
 use Rattle.gw_steps.specs.Runs.{AtEach, Entry, IsRun, state_after}
 use Rattle.gw_steps.proofs.Inversion.{answered as was_answered}
 use Rattle.gw_steps.proofs.Running.{entry, last_place}
-use Rattle.law_history.specs.Premises.{IsSoundRun}
+use Rattle.gw_steps.specs.Premises.{IsSoundRun}
 use Rattle.law_orders.specs.Bonds.{HasShortIndex}
 use Rattle.law_orders.proofs.Bonded.{Place, places}
 use Rattle.law_orders.proofs.Held.{under_way_at}

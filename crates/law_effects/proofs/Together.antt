@@ -3,7 +3,7 @@ use Rattle.std.proofs.Common.{List, [], ◌∷◌}
 use Rattle.std.specs.List.{AllByRecursion}
 use Rattle.gw_map.specs.Settings.{Setup}
 use Rattle.gw_steps.specs.Runs.{AtEach, Entry}
-use Rattle.law_history.specs.Premises.{IsSoundRun}
+use Rattle.gw_steps.specs.Premises.{IsSoundRun}
 use Rattle.law_orders.specs.Bonds.{HasShortIndex}
 use Rattle.law_effects.specs.Rousing.{LeavesNobodyAsleep}
 use Rattle.law_effects.specs.Lateness.{TellsLate}

@@ -8,7 +8,7 @@ use Rattle.gw_steps.specs.declared.step.StepFault.{StepFault}
 use Rattle.gw_steps.specs.Effects.{Effects, is_so}
 use Rattle.gw_steps.specs.Queries.{dropped_at}
 use Rattle.gw_steps.specs.Runs.{Entry}
-use Rattle.law_history.specs.Premises.{client_at}
+use Rattle.gw_steps.specs.Premises.{client_at}
 use Rattle.law_orders.specs.Sessions.{ends_session}
 use Rattle.law_fates.specs.Fates.{effects_by}
 

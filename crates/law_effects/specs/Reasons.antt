@@ -12,7 +12,7 @@ use Rattle.gw_control.specs.Example.{setup as with_controls}
 use Rattle.gw_control.specs.declared.answer.Answer.{Answer}
 use Rattle.gw_control.specs.declared.refusal.Refusal.{Refusal}
 use Rattle.gw_steps.specs.declared.apdu_kind.ApduKind.{ApduKind}
-use Rattle.gw_steps.specs.declared.effects.Fate.{Fate}
+use Rattle.dnp_master.specs.declared.fate.Fate.{Fate}
 use Rattle.gw_steps.specs.declared.effects.Judged.{Judged}
 use Rattle.gw_steps.specs.declared.effects.OrderEnd.{OrderEnd}
 use Rattle.gw_steps.specs.declared.step.Step.{Step}

@@ -4,7 +4,7 @@ ghost use Rattle.std.specs.Prelude.{List};
 ghost use Rattle.std.specs.List.{AllByRecursion};
 ghost use Rattle.gw_map.specs.Settings.{Setup};
 ghost use Rattle.gw_steps.specs.Runs.{AtEach, Entry};
-ghost use Rattle.law_history.specs.Premises.{IsSoundRun};
+ghost use Rattle.gw_steps.specs.Premises.{IsSoundRun};
 ghost use Rattle.law_orders.specs.Bonds.{HasShortIndex};
 ghost use Rattle.law_effects.specs.Rousing.{LeavesNobodyAsleep};
 ghost use Rattle.law_effects.specs.Lateness.{TellsLate};

@@ -7,7 +7,7 @@ ghost use Rattle.gw_control.specs.declared.refusal.Refusal.TheVariants.{Outstati
 ghost use Rattle.gw_control.specs.declared.refusal.Refusal.TheVariants.{NotSelected, UnlikeSelect, NoPlace};
 ghost use Rattle.gw_control.specs.Example.{doubled, setup as with_controls, setup_with};
 ghost use Rattle.gw_steps.specs.declared.apdu_kind.ApduKind.TheVariants as kinds;
-ghost use Rattle.gw_steps.specs.declared.effects.Fate.TheVariants as fates;
+ghost use Rattle.dnp_master.specs.declared.fate.Fate.TheVariants as fates;
 ghost use Rattle.gw_steps.specs.declared.step.Step.TheVariants as steps;
 ghost use Rattle.gw_steps.specs.Example.{answer, echo, ends, outstation_down, poll};
 ghost use Rattle.law_effects.specs.Refusals.{is_negative};

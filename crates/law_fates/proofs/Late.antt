@@ -9,8 +9,8 @@ use Rattle.gw_control.specs.declared.accepted.Accepted.{Accepted}
 use Rattle.gw_control.specs.Controls.{Controls}
 use Rattle.gw_control.specs.Orders.{Outgoing}
 use Rattle.gw_station.specs.Client.{is_timed_out}
-use Rattle.gw_steps.specs.declared.effects.Fate.{Fate}
-use Rattle.gw_steps.specs.declared.effects.Fate.TheVariants as fates
+use Rattle.dnp_master.specs.declared.fate.Fate.{Fate}
+use Rattle.dnp_master.specs.declared.fate.Fate.TheVariants as fates
 use Rattle.gw_steps.specs.Controls.{controls_after_all_ended, controls_with_ended}
 use Rattle.gw_steps.specs.Effects.{effects_of_tick, end_at, late, let_go}
 use Rattle.gw_steps.specs.State.{State}

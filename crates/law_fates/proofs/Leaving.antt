@@ -11,7 +11,7 @@ use Rattle.gw_control.specs.declared.accepted.UnderWay.{UnderWay}
 use Rattle.gw_control.specs.Controls.{Controls, controls_after_end}
 use Rattle.gw_control.specs.Moves.{one_if}
 use Rattle.gw_control.specs.Orders.{Outgoing, is_of_others, left_by, outgoing_after_end}
-use Rattle.gw_steps.specs.declared.effects.Fate.TheVariants as fates
+use Rattle.dnp_master.specs.declared.fate.Fate.TheVariants as fates
 use Rattle.gw_steps.specs.Controls.{controls_after_closes}
 use Rattle.gw_steps.specs.Effects.{ending_of, is_of_leaving, is_so, let_go, only, order_end}
 use Rattle.gw_steps.specs.State.{State, client_limit}

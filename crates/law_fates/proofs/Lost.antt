@@ -10,7 +10,7 @@ use Rattle.gw_control.specs.Controls.{Controls, controls_after_lost, AreInOrder}
 use Rattle.gw_control.specs.Held.{controls_after_losses}
 use Rattle.gw_control.specs.Moves.{one_if}
 use Rattle.gw_control.specs.Orders.{Outgoing, outgoing_after_ended, outgoing_after_lost, places}
-use Rattle.gw_steps.specs.declared.effects.Fate.TheVariants as fates
+use Rattle.dnp_master.specs.declared.fate.Fate.TheVariants as fates
 use Rattle.gw_steps.specs.Controls.{controls_with_ended, ended_lost}
 use Rattle.gw_steps.specs.Effects.{end_at, lost, lost_waiting}
 use Rattle.gw_steps.specs.Sound.{IsSoundState}

@@ -15,7 +15,7 @@ use Rattle.gw_steps.specs.Steps.{Allowed}
 use Rattle.gw_steps.specs.Runs.{Entry, state_after, AtEach, IsRun}
 use Rattle.gw_steps.specs.Sound.{LeavesSound}
 use Rattle.gw_steps.proofs.Running.{entry, last_place}
-use Rattle.law_history.specs.Premises.{IsSoundRun}
+use Rattle.gw_steps.specs.Premises.{IsSoundRun}
 use Rattle.law_clients.proofs.Clients.{eight_clients}
 use Rattle.law_fates.specs.Fates.{Named, accepted_in, all_accepted, all_ended, effects_by}
 use Rattle.law_fates.specs.Fates.{down_from, ended_in, on_their_way, HasOneFateEach, NewestEnds}

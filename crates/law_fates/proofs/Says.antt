@@ -25,8 +25,8 @@ use Rattle.dnp_master.specs.Answers.{command_answer, operation_awaited, task_ans
 use Rattle.dnp_master.specs.Fragments.{control_in, ended_answered, ended_with, is_begun_rightly}
 use Rattle.dnp_master.specs.Fragments.{is_done as is_task_done, is_last, verdict_of_answer, verdict_of_unsolicited}
 use Rattle.dnp_master.specs.Master.{Master, ended, ended_by_tick, ended_late as late_of, is_late, order_of, order_taken}
-use Rattle.gw_steps.specs.declared.effects.Fate.{Fate}
-use Rattle.gw_steps.specs.declared.effects.Fate.TheVariants as fates
+use Rattle.dnp_master.specs.declared.fate.Fate.{Fate}
+use Rattle.dnp_master.specs.declared.fate.Fate.TheVariants as fates
 use Rattle.gw_steps.specs.Controls.{ended_by_fragment, ended_in, ended_lost}
 use Rattle.gw_steps.specs.Effects.{fate_by, fate_taken}
 use Rattle.law_fates.specs.Told.{is_done, is_let_go}

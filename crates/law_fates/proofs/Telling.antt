@@ -14,8 +14,8 @@ use Rattle.gw_control.specs.declared.answer.Outcome.{Outcome}
 use Rattle.gw_control.specs.Controls.{Controls, controls_after_lost, outcome_ended_at, outcome_lost_at, AreInOrder}
 use Rattle.gw_control.specs.Orders.{Outgoing, is_named, is_numbered, numbers_of, outcome_by}
 use Rattle.gw_control.specs.Orders.{outcome_of, outgoing_after_lost, IsInOrder, Rise}
-use Rattle.gw_steps.specs.declared.effects.Fate.{Fate}
-use Rattle.gw_steps.specs.declared.effects.Fate.TheVariants as fates
+use Rattle.dnp_master.specs.declared.fate.Fate.{Fate}
+use Rattle.dnp_master.specs.declared.fate.Fate.TheVariants as fates
 use Rattle.gw_steps.specs.declared.effects.OrderEnd.{OrderEnd}
 use Rattle.gw_steps.specs.Controls.{outcome_ended, outcomes_lost}
 use Rattle.gw_steps.specs.Effects.{end_at, is_of_leaving, let_go, lost_waiting, order_end}

@@ -19,8 +19,8 @@ use Rattle.gw_station.specs.declared.event.Event.{Event}
 use Rattle.gw_station.specs.declared.event.Event.TheVariants as events
 use Rattle.gw_station.specs.Client.{Client, is_timed_out}
 use Rattle.gw_station.specs.Frames.{event_of}
-use Rattle.gw_steps.specs.declared.effects.Fate.{Fate}
-use Rattle.gw_steps.specs.declared.effects.Fate.TheVariants as fates
+use Rattle.dnp_master.specs.declared.fate.Fate.{Fate}
+use Rattle.dnp_master.specs.declared.fate.Fate.TheVariants as fates
 use Rattle.gw_steps.specs.declared.effects.OrderEnd.{OrderEnd}
 use Rattle.gw_steps.specs.declared.step.Step.{Step}
 use Rattle.gw_steps.specs.declared.step.Step.TheVariants as steps
@@ -36,7 +36,7 @@ use Rattle.gw_steps.specs.Steps.{controls_closed, ended_late, is_accepting, late
 use Rattle.gw_steps.specs.Steps.{outcomes_of, outcomes_of_fragment, outcomes_of_loss, outcomes_of_tick}
 use Rattle.gw_steps.specs.Runs.{Entry, state_after, unless_fault, AtEach}
 use Rattle.gw_steps.proofs.Running.{last_place}
-use Rattle.law_history.specs.Premises.{IsSoundRun}
+use Rattle.gw_steps.specs.Premises.{IsSoundRun}
 use Rattle.law_history.proofs.Ended.{ended_there}
 use Rattle.law_fates.specs.Told.{controls_then, told_by_outcome, TellsFates}
 use Rattle.law_fates.proofs.Counts.{waiting_at, way_at}

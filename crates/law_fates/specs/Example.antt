@@ -8,7 +8,7 @@ use Rattle.iec_apci.specs.declared.apdu.Signal.TheVariants.{StartAct, StopAct}
 use Rattle.dnp_master.specs.Example.{setpoint_answer}
 use Rattle.gw_answers.specs.Example.{asdu_with}
 use Rattle.gw_control.specs.Example.{setup}
-use Rattle.gw_steps.specs.declared.effects.Fate.{Fate}
+use Rattle.dnp_master.specs.declared.fate.Fate.{Fate}
 use Rattle.gw_steps.specs.declared.effects.OrderEnd.{OrderEnd}
 use Rattle.gw_steps.specs.declared.step.Step.{Step}
 use Rattle.gw_steps.specs.declared.step.Step.TheVariants as steps

@@ -3,7 +3,7 @@ ghost use Rattle.std.specs.Prelude.{◌≡◌, [], ◌∷◌, ◌++◌, map, fal
 ghost use Rattle.dnp_app.specs.declared.operation.Operation.TheVariants.{Select};
 ghost use Rattle.gw_control.specs.Example.{setup};
 ghost use Rattle.gw_steps.specs.Example.{poll};
-ghost use Rattle.gw_steps.specs.declared.effects.Fate.TheVariants as fated;
+ghost use Rattle.dnp_master.specs.declared.fate.Fate.TheVariants as fated;
 ghost use Rattle.gw_steps.specs.Runs.{state_after};
 ghost use Rattle.law_fates.specs.Fates.{all_accepted, all_ended, on_their_way};
 ghost use Rattle.law_fates.specs.Example.{closed, done, due, fates, left, let_go, made, of_another, refused, sets, told};

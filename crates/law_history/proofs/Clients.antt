@@ -20,7 +20,7 @@ use Rattle.iec_command.specs.declared.command.Command.{Command}
 use Rattle.gw_control.specs.declared.answer.Outcome.{Outcome}
 use Rattle.gw_control.specs.Controls.{Controls}
 use Rattle.gw_station.specs.declared.event.Said.{Said}
-use Rattle.gw_station.specs.declared.event.Why.{Why}
+use Rattle.iec_apci.specs.declared.why.Why.{Why}
 use Rattle.gw_station.specs.declared.sending.Sending.{Sending}
 use Rattle.gw_station.specs.Client.{Client, is_up, is_timed_out, client_after_up, client_after_close, client_after_tick, client_with_news}
 use Rattle.gw_station.specs.Frames.{close_of, event_by, event_of, command_in, client_by, client_taking}

@@ -22,7 +22,7 @@ use Rattle.gw_steps.proofs.Running.{entry, last_place, at_each}
 use Rattle.law_history.specs.Log.{log_of}
 use Rattle.law_history.specs.Life.{Turn, Idle, bringing, Takes, PutsOut, Ends, puts_out, turn_taking, turn_giving}
 use Rattle.law_history.specs.Life.{is_closed_in, nothing_new, outcomes_for, outcomes_in, said_in, turn_of, lived, life}
-use Rattle.law_history.specs.Premises.{IsSoundRun}
+use Rattle.gw_steps.specs.Premises.{IsSoundRun}
 use Rattle.law_history.proofs.Places.{Place, places}
 
 -- a picture is that of a log, and shows each row by its type

@@ -9,7 +9,7 @@ use Rattle.gw_steps.specs.Runs.{Entry, state_after, AtEach}
 use Rattle.gw_steps.specs.Sound.{LeavesSound}
 use Rattle.gw_steps.proofs.Running.{last_place}
 use Rattle.law_history.specs.Life.{Turn, turn_of, lived, life, OfEachLife}
-use Rattle.law_history.specs.Premises.{IsSoundRun, client_at}
+use Rattle.gw_steps.specs.Premises.{IsSoundRun, client_at}
 use Rattle.law_history.proofs.Lives.{Lives}
 use Rattle.law_history.proofs.Clients.{Goes, SlotGoes, all_go}
 use Rattle.law_history.proofs.Steps.{first_tied, tied_more}

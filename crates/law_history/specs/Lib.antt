@@ -3,5 +3,4 @@ pub mod Log
 pub mod Up
 pub mod Life
 pub mod Confirmations
-pub mod Premises
 pub mod Example

@@ -23,7 +23,7 @@ use Rattle.gw_control.specs.Intents.{control_for}
 use Rattle.gw_control.specs.Orders.{Outgoing}
 use Rattle.gw_control.specs.Selections.{is_own, is_select, is_selected, is_taken}
 use Rattle.gw_station.specs.declared.event.Said.TheVariants as saids
-use Rattle.gw_station.specs.declared.event.Why.{Why}
+use Rattle.iec_apci.specs.declared.why.Why.{Why}
 use Rattle.gw_station.specs.Client.{Client, is_up as is_connected}
 use Rattle.gw_station.specs.Frames.{close_of, command_given, command_in, event_by, event_of}
 use Rattle.gw_steps.specs.declared.step.Step.{Step}

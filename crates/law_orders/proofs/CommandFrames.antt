@@ -17,7 +17,7 @@ use Rattle.gw_control.specs.declared.asked.AskedCommand.{AskedCommand}
 use Rattle.gw_control.specs.Controls.{Controls, controls_after_at, controls_after_end}
 use Rattle.gw_control.specs.Intents.{control_for, if_of_type, is_of_type}
 use Rattle.gw_control.specs.Moves.{IsSoundControls}
-use Rattle.gw_station.specs.declared.event.Why.{Why}
+use Rattle.iec_apci.specs.declared.why.Why.{Why}
 use Rattle.gw_station.specs.Client.{Client, is_started}
 use Rattle.gw_station.specs.Frames.{begins, client_taking, close_of, command_in, event_by, event_taking}
 use Rattle.gw_steps.specs.declared.step.Step.TheVariants as steps

@@ -8,7 +8,7 @@ use Rattle.gw_steps.specs.declared.step.Reply.{Reply}
 use Rattle.gw_steps.specs.declared.step.StepFault.{StepFault}
 use Rattle.gw_steps.specs.Runs.{AtEach, Entry, state_after}
 use Rattle.gw_steps.proofs.Running.{entry, last_place}
-use Rattle.law_history.specs.Premises.{IsSoundRun}
+use Rattle.gw_steps.specs.Premises.{IsSoundRun}
 use Rattle.law_history.proofs.Places.{Place as HistoryPlace, places as history_places}
 use Rattle.law_orders.specs.Bonds.{HasShortIndex}
 use Rattle.law_orders.specs.Executes.{Execute, execute_in, executes}

@@ -14,7 +14,7 @@ use Rattle.gw_steps.specs.State.{State}
 use Rattle.gw_steps.specs.Steps.{Allowed, after}
 use Rattle.gw_steps.specs.Runs.{AtEach, Entry, IsRun, state_after}
 use Rattle.gw_steps.proofs.Running.{entry, last_place, at_each}
-use Rattle.law_history.specs.Premises.{IsSoundRun}
+use Rattle.gw_steps.specs.Premises.{IsSoundRun}
 use Rattle.law_history.proofs.Places.{Place as HistoryPlace, places as history_places}
 use Rattle.law_orders.specs.Bonds.{HasShortIndex}
 use Rattle.law_orders.specs.Marks.{marks}

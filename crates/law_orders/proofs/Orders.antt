@@ -30,7 +30,7 @@ use Rattle.gw_control.specs.Orders.{Outgoing, outgoing_with}
 use Rattle.gw_control.specs.Selections.{is_own, is_select}
 use Rattle.gw_control.proofs.Once.{one_at_most}
 use Rattle.gw_control.proofs.Keeps.{accepted}
-use Rattle.gw_station.specs.declared.event.Why.{Why}
+use Rattle.iec_apci.specs.declared.why.Why.{Why}
 use Rattle.gw_station.specs.Client.{Client}
 use Rattle.gw_station.specs.Frames.{close_of, command_given, command_in, event_by}
 use Rattle.gw_station.proofs.All.{all-append}

@@ -4,7 +4,7 @@ use Rattle.std.specs.List.{AllByRecursion}
 use Rattle.gw_map.specs.Settings.{Setup}
 use Rattle.gw_steps.specs.Runs.{AtEach, Entry, IsRun, state_after}
 use Rattle.gw_steps.proofs.Running.{last_place, at_each}
-use Rattle.law_history.specs.Premises.{IsSoundRun}
+use Rattle.gw_steps.specs.Premises.{IsSoundRun}
 use Rattle.law_orders.specs.Bonds.{HasShortIndex}
 use Rattle.law_orders.proofs.Follows.{Place as OrderPlace, places as order_places}
 use Rattle.law_orders.specs.Requests.{Requests}

@@ -18,8 +18,8 @@ use Rattle.gw_control.specs.declared.answer.Outcome.{Outcome}
 use Rattle.gw_station.specs.declared.event.Event.{Event}
 use Rattle.gw_station.specs.declared.event.Event.TheVariants as events
 use Rattle.gw_station.specs.declared.event.Said.{Said}
-use Rattle.gw_station.specs.declared.event.Why.{Why}
-use Rattle.gw_station.specs.declared.event.Why.TheVariants.{Flooded, NotStarted}
+use Rattle.iec_apci.specs.declared.why.Why.{Why}
+use Rattle.iec_apci.specs.declared.why.Why.TheVariants.{Flooded, NotStarted}
 use Rattle.gw_station.specs.declared.sending.Sending.{Sending}
 use Rattle.gw_station.specs.declared.sending.Sending.TheVariants as sendings
 use Rattle.gw_station.specs.declared.client.Stage.TheVariants.{Started, Stopped}

@@ -4,7 +4,7 @@ use Rattle.std.specs.Prelude.{IfOk}
 use Rattle.gw_map.specs.Settings.{Setup}
 use Rattle.gw_steps.specs.State.{Hub}
 use Rattle.gw_steps.specs.Runs.{Entry}
-use Rattle.law_history.specs.Premises.{IsSoundRun}
+use Rattle.gw_steps.specs.Premises.{IsSoundRun}
 use Rattle.law_orders.specs.Bonds.{IsControlRun}
 use Rattle.law_orders.proofs.Bonded.{bound, told_once}
 use Rattle.law_orders.proofs.Follows.{told_when_due}

@@ -1,6 +1,5 @@
 pub mod Failed
 pub mod Framing
-pub mod Joined
 pub mod Runs
 pub mod Follow
 pub mod Worked

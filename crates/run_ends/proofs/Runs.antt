@@ -7,7 +7,7 @@ use Rattle.std.proofs.Math.Seq.{take-append-add}
 use Rattle.iec_apci.specs.declared.buffer.ApduBuf.{ApduBuf}
 use Rattle.gw_steps.specs.declared.step.Reply.TheVariants.{Apdu}
 use Rattle.run_ends.specs.PutOut.{Gave, Given, GivesAll, Handed, IsPut, joined, octets_in}
-use Rattle.run_ends.proofs.Joined.{joined-append}
+use Rattle.iec_apci.proofs.Joined.{joined-append}
 use Rattle.run_ends.specs.declared.putting.Put.{Put}
 use Rattle.run_ends.specs.declared.putting.Put.TheVariants.{Ended, Unwritten, More}
 

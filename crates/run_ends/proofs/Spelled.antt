@@ -8,7 +8,7 @@ use Rattle.iec_apci.specs.Buffer.{buffer_of}
 use Rattle.iec_apci.specs.Laws.{reading_with_all_first}
 use Rattle.iec_apci.specs.Stream.{reading}
 use Rattle.iec_apci.proofs.Split.{reading-apdus}
-use Rattle.run_ends.specs.Octets.{joined, octets_in}
+use Rattle.iec_apci.specs.Joined.{joined, octets_in}
 
 -- the octets in a buffer are those that were put into it
 in_buffer : (c : ApduContent) → octets_in (buffer_of c) ≡ apdu c

@@ -1,6 +1,5 @@
 pub mod Ends
 pub mod Framed
-pub mod Octets
 pub mod PutOut
 pub mod Said
 pub mod Sent

@@ -6,8 +6,8 @@ use Rattle.iec_apci.specs.declared.buffer.ApduBuf.{ApduBuf}
 use Rattle.gw_steps.specs.declared.step.Reply.{Reply}
 use Rattle.gw_steps.specs.declared.step.Reply.TheVariants.{Apdu}
 use Rattle.gw_steps.specs.declared.step.StepFault.{StepFault}
-pub use Rattle.run_ends.specs.Octets.{joined, octets_in}
-use Rattle.run_ends.specs.Octets.{is_apdu as is_apdu_reply}
+pub use Rattle.iec_apci.specs.Joined.{joined, octets_in}
+use Rattle.gw_steps.specs.Answers.{is_apdu as is_apdu_reply}
 use Rattle.run_ends.specs.declared.putting.Gathered.{Gathered}
 use Rattle.run_ends.specs.declared.putting.Gathered.TheVariants as gathering
 use Rattle.run_ends.specs.declared.putting.Put.{Put}

@@ -12,7 +12,7 @@ ghost use Rattle.run_ends.specs.declared.sent.Sent.TheVariants.{Confirm, Reply, 
 ghost use Rattle.run_ends.specs.declared.worker_end.WorkerEnd.TheVariants as ends;
 ghost use Rattle.run_ends.specs.Ends.{is_fault, is_read_fault, is_write_fault, reading_end};
 ghost use Rattle.run_ends.specs.Framed.{status_request};
-ghost use Rattle.run_ends.specs.Octets.{joined, octets_in};
+ghost use Rattle.iec_apci.specs.Joined.{joined, octets_in};
 ghost use Rattle.run_ends.specs.PutOut.{is_unwritten, writing_end};
 ghost use Rattle.run_ends.specs.Sent.{is_cut_off, segments_sent, sent_octets, Took, TookAll};
 

@@ -9,7 +9,7 @@ ghost use Rattle.iec_apci.specs.Buffer.{buffer_of};
 ghost use Rattle.iec_apci.specs.Laws.{reading_with_all_first};
 ghost use Rattle.iec_apci.specs.Stream.{reading};
 ghost use Rattle.run_ends.specs.Framed.{framed};
-ghost use Rattle.run_ends.specs.Octets.{joined};
+ghost use Rattle.iec_apci.specs.Joined.{joined};
 ghost use Rattle.run_ends.specs.Said.{SaysInTurn};
 ghost use Rattle.run_ends.specs.Sent.{sent_octets, Took};
 ghost use Rattle.run_ends.specs.declared.sent.Sent.{Sent};

@@ -3,8 +3,6 @@
 //! of whatever gives them.
 #![tactic(auto)]
 
-mod answer;
-mod batch;
 mod ends;
 pub mod examples;
 pub mod laws;
@@ -14,9 +12,9 @@ mod sent;
 mod wire;
 mod worker_end;
 
-pub use answer::apdu_in;
-pub use batch::{Batch, LONGEST_APDU};
 pub use ends::{Arrival, Incoming, Outgoing, Unwritten};
+pub use gw_steps::apdu_in;
+pub use iec_apci::{Batch, LONGEST_APDU};
 pub use line::{Line, LineCourse};
 pub use putting::{Gathered, Put, Source, put_out};
 pub use run_log::{Front, Head, Opened};

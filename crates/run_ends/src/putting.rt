@@ -5,10 +5,10 @@ ghost use Rattle.gw_steps.specs.declared.step.Reply.{Reply as ReplySeen};
 ghost use Rattle.gw_steps.specs.declared.step.StepFault.{StepFault as FaultSeen};
 ghost use Rattle.run_ends.specs.PutOut.{is_unwritten, writing_end, IsGathered, IsPut, IsPutNext};
 
-use crate::batch::Batch;
 use crate::ends::{Outgoing, Unwritten};
 use crate::worker_end::WorkerEnd;
 use gw_steps::{Reply, StepFault};
+use iec_apci::Batch;
 
 /// How it ended that a source was asked for replies.
 #[derive(Clone, Copy)]

@@ -1,7 +1,6 @@
 //! How workers end.
 
-use gw_station::Why;
-use iec_apci::ApciFault;
+use iec_apci::{ApciFault, Why};
 
 /// Why a worker ended.
 #[derive(Clone, Copy, PartialEq)]

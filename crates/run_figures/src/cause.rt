@@ -1,8 +1,7 @@
 //! Why a connection ended.
 
 use crate::failure::Failure;
-use gw_station::Why;
-use iec_apci::ApciFault;
+use iec_apci::{ApciFault, Why};
 use std::fmt;
 
 /// Why a connection ended.

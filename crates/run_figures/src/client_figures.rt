@@ -5,8 +5,8 @@ use crate::minute::LastMinute;
 use crate::throttle::Throttle;
 use crate::unknown_asdu::UnknownAsdus;
 use gw_control::Refusal;
-use gw_station::Why;
-use gw_steps::UnknownAsdu;
+use iec_apci::Why;
+use iec_command::UnknownAsdu;
 use run_status::{ClientState, Closes, Refusals};
 use std::net::SocketAddr;
 

@@ -8,7 +8,7 @@ use crate::reconnects::Reconnects;
 use crate::stray::{StrayFrame, StrayFrames};
 use crate::throttle::Throttle;
 use crate::unreadable::Unreadable;
-use gw_steps::{Reported, Task};
+use dnp_master::{Reported, Task};
 use run_status::{OutstationState, tell_of_trouble};
 
 /// The milliseconds between two tellings of unanswered requests, of skipped octets, and of stray frames.

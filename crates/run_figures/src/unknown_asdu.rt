@@ -1,7 +1,7 @@
 //! ASDUs of clients of types that aren't known in control direction.
 
 use crate::counted::AndMore;
-use gw_steps::UnknownAsdu;
+use iec_command::UnknownAsdu;
 use std::fmt;
 
 /// Such ASDUs, as they are told.

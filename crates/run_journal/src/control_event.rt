@@ -3,7 +3,7 @@
 use crate::event::Priority;
 use crate::reason::{FateWords, Reason};
 use dnp_app::Request;
-use gw_steps::Fate;
+use dnp_master::Fate;
 use iec_command::Command;
 use iec_command::causes::UNKNOWN_TYPE;
 use std::fmt;

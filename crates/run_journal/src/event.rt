@@ -3,8 +3,7 @@
 use crate::control_event::{CommandEvent, OrderEvent};
 use crate::doubt::Doubt;
 use crate::write_trouble::WriteTrouble;
-use cmd_names::Names;
-use cmd_text::RecordEnd;
+use cmd_text::{Names, RecordEnd};
 use iec_command::Command;
 use run_figures::{Failure, Loss, StrayFrames, UnknownAsdus, Unreadable};
 use std::net::{IpAddr, SocketAddr};

@@ -3,7 +3,7 @@
 use crate::event::JournalEvent;
 use crate::note_line::{Note, NoteLine};
 use crate::waiting::{Next, WaitingNotes};
-use cmd_names::Names;
+use cmd_text::Names;
 use gw_model::Memory;
 use run_clock::Bell;
 use run_status::LeftOut;

@@ -1,8 +1,8 @@
 //! Why commands are confirmed negatively, and orders end, in words.
 
 use dnp_app::Operation;
+use dnp_master::Fate;
 use gw_control::Refusal;
-use gw_steps::Fate;
 use iec_command::{Action, Command};
 use std::fmt;
 

@@ -8,3 +8,5 @@ pub mod Telling
 pub mod Numbers
 pub mod Worked
 pub mod Taping
+pub mod Numbering
+pub mod Replaying

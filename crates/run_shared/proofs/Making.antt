@@ -6,7 +6,7 @@ use Rattle.gw_steps.specs.declared.step.Step.{Step}
 use Rattle.gw_steps.specs.declared.step.Reply.{Reply}
 use Rattle.gw_steps.specs.declared.step.Reply.TheVariants.{Apdu, Closed, Done, Nothing, Request, Taken, Ticked, Verdict}
 use Rattle.gw_steps.specs.declared.step.StepFault.{StepFault}
-use Rattle.run_ends.specs.Octets.{is_apdu}
+use Rattle.gw_steps.specs.Answers.{is_apdu}
 use Rattle.gw_map.specs.Settings.{Setup}
 use Rattle.run_shared.specs.Turn.{Core, Pass, Steps}
 use Rattle.run_shared.specs.Made.{Answer, AreMade, IsMadeInto, octets_given, octets_of}

@@ -15,8 +15,8 @@ use Rattle.gw_steps.specs.declared.step.Reply.TheVariants.{Apdu}
 use Rattle.gw_steps.specs.declared.step.StepFault.{StepFault}
 use Rattle.run_shared.specs.Turn.{Answers, Pass}
 use Rattle.run_shared.specs.Pumping.{ArePumped, IsGivenTo, IsPumpedRun, MayGoOn, PumpsAll, PumpsOnce}
-use Rattle.run_ends.specs.Octets.{joined, octets_in}
-use Rattle.run_ends.proofs.Joined.{joined-append}
+use Rattle.iec_apci.specs.Joined.{joined, octets_in}
+use Rattle.iec_apci.proofs.Joined.{joined-append}
 use Rattle.run_shared.specs.declared.pumped.Pumped.{Pumped}
 use Rattle.run_shared.specs.declared.pumped.Pumped.TheVariants.{Ended, More}
 

@@ -13,8 +13,8 @@ use Rattle.gw_steps.specs.declared.step.StepFault.{StepFault}
 use Rattle.gw_steps.specs.Runs.{Entry as Made}
 use Rattle.gw_steps.specs.State.{Hub}
 use Rattle.run_log.specs.Follows.{of_lane}
-use Rattle.run_state.specs.declared.entry.Entry.{Entry}
-use Rattle.run_state.specs.Recording.{Recording, Replays, Tape, call_of, noted, recording_off, rolled, tape_on, tape_with}
+use Rattle.run_shared.specs.declared.entry.Entry.{Entry}
+use Rattle.run_shared.specs.Recording.{Recording, Replays, Tape, call_of, noted, recording_off, rolled, tape_on, tape_with}
 use Rattle.run_shared.specs.Reached.{Deed, entry}
 use Rattle.run_shared.specs.Taped.{CountsEach, HasNewest, IsOfHistory, deed_of}
 

@@ -3,7 +3,7 @@ use Rattle.std.specs.Prelude.{ℕ, ◌==◌, [], ◌∷◌, Ok, Some, None, if�
 use Rattle.gw_steps.specs.declared.step.Step.TheVariants as steps
 use Rattle.gw_steps.specs.declared.step.Reply.TheVariants as replies
 use Rattle.gw_steps.specs.State.{Hub}
-use Rattle.run_state.specs.Recording.{Tape}
+use Rattle.run_shared.specs.Recording.{Tape}
 use Rattle.run_shared.specs.Roles.{Roles}
 
 -- the pumps for client 3 are left to actor 7, and the polls of outstation 2 to actor 5

@@ -8,3 +8,8 @@ pub mod Roles
 pub mod Example
 pub mod Tried
 pub mod Taped
+pub mod Accepting
+pub mod Counts
+pub mod Kept
+pub mod Recorded
+pub mod Recording

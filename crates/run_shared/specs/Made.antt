@@ -4,7 +4,7 @@ use Rattle.gw_steps.specs.declared.step.Step.{Step}
 use Rattle.gw_steps.specs.declared.step.Reply.{Reply}
 use Rattle.gw_steps.specs.declared.step.Reply.TheVariants.{Apdu}
 use Rattle.gw_steps.specs.declared.step.StepFault.{StepFault}
-use Rattle.run_ends.specs.Octets.{octets_in}
+use Rattle.iec_apci.specs.Joined.{octets_in}
 use Rattle.gw_map.specs.Settings.{Setup}
 use Rattle.run_shared.specs.Turn.{Core, Pass, Steps}
 

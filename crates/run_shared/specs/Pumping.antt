@@ -11,7 +11,8 @@ use Rattle.gw_steps.specs.declared.step.StepFault.TheVariants.{Spent}
 use Rattle.gw_steps.specs.State.{State}
 use Rattle.gw_steps.specs.Steps.{Allowed}
 use Rattle.gw_steps.specs.Sound.{IsSoundState}
-use Rattle.run_ends.specs.Octets.{is_apdu, joined, octets_in}
+use Rattle.iec_apci.specs.Joined.{joined, octets_in}
+use Rattle.gw_steps.specs.Answers.{is_apdu}
 use Rattle.run_shared.specs.declared.pumped.Pumped.{Pumped}
 use Rattle.run_shared.specs.declared.pumped.Pumped.TheVariants.{Ended, More}
 use Rattle.run_shared.specs.Turn.{Answers, Pass}

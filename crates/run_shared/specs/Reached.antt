@@ -8,7 +8,7 @@ use Rattle.gw_steps.specs.declared.step.Reply.{Reply}
 use Rattle.gw_steps.specs.declared.step.StepFault.{StepFault}
 use Rattle.gw_steps.specs.State.{Hub, at_first}
 use Rattle.gw_steps.specs.Runs.{Entry, state_after}
-use Rattle.law_history.specs.Premises.{IsSoundRun, IsSoundSetup}
+use Rattle.gw_steps.specs.Premises.{IsSoundRun, IsSoundSetup}
 
 -- a step, and what it was answered
 abbrev pub entry : Step → Result Reply StepFault → Entry

@@ -1,8 +1,8 @@
 -- What the recorder has of the one history.
 use Rattle.std.specs.Prelude.{◌≡◌, ℕ, List, ◌++◌, length, map, reverse, slice_index, Option, Some, None}
 use Rattle.run_log.specs.Follows.{of_lane}
-use Rattle.run_state.specs.declared.entry.Entry.{Entry}
-use Rattle.run_state.specs.Recording.{Recording, Tape}
+use Rattle.run_shared.specs.declared.entry.Entry.{Entry}
+use Rattle.run_shared.specs.Recording.{Recording, Tape}
 use Rattle.run_shared.specs.Reached.{Deed, entry}
 
 -- a call on the tape, as the history has it

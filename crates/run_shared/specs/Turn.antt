@@ -11,7 +11,7 @@ use Rattle.gw_steps.specs.Sound.{IsSoundState}
 use Rattle.gw_map.specs.Settings.{Setup}
 use Rattle.run_log.specs.Follows.{Follows}
 use Rattle.run_shared.specs.Reached.{Deed, IsCourse, IsReached, entries_of, entry}
-use Rattle.run_state.specs.Recording.{Recording, is_tape_full, noted, recording_off, rolled}
+use Rattle.run_shared.specs.Recording.{Recording, is_tape_full, noted, recording_off, rolled}
 
 -- the hub under the lock, what is recorded of it, the one history of its calls, newest first, each with its actor, and how
 -- many were made

@@ -1,8 +1,8 @@
 //! The bells of the workers that write.
 
+use crate::wake_set::WakeSet;
 use gw_model::{CLIENTS, Memory, OUTSTATIONS};
 use run_clock::Bell;
-use run_state::WakeSet;
 use std::alloc::Global;
 
 /// A bell for each writer towards an outstation, and for that of each client.

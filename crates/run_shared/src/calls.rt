@@ -6,12 +6,14 @@ ghost use Rattle.run_shared.specs.Roles.{MayMake};
 ghost use Rattle.run_shared.specs.Turn.{Answers};
 
 use crate::course::Course;
+use crate::figures::Figures;
+use crate::holdback::Load;
 use crate::pass::Pass;
 use crate::pumped::PumpRun;
 use gw_model::Observation;
+use gw_steps::{NewsPiece, Reply, Step, StepFault};
+use iec_apci::Batch;
 use run_clock::Bell;
-use run_ends::Batch;
-use run_state::{Figures, Load, NewsPiece, Reply, Step, StepFault};
 use std::sync::Wait;
 
 /// What passes make calls on, from many threads.

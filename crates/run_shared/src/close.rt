@@ -6,7 +6,7 @@ ghost use Rattle.run_shared.specs.Totals.{total_of};
 use crate::course::Course;
 use crate::pass::Pass;
 use crate::shared::Shared;
-use run_state::Machine;
+use gw_steps::Machine;
 use std::sync::Wait;
 use std::sync::ledger::Share;
 use thiserror::Error;

@@ -1,7 +1,7 @@
 //! The course of a core: the one history of its calls, which exists in proofs alone.
 
+use gw_steps::{Reply, Step, StepFault};
 use run_log::{Naming, Opened};
-use run_state::{Reply, Step, StepFault};
 use std::marker::{Brand, Model};
 use std::sync::ledger::Ledger;
 

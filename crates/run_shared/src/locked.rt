@@ -4,7 +4,7 @@ ghost use Rattle.std.specs.Prelude.{Some, true, false, IfOk, IsTrue};
 ghost use Rattle.gw_steps.specs.declared.step.Step.TheVariants as steps;
 ghost use Rattle.gw_steps.specs.Sound.{IsSoundState};
 ghost use Rattle.gw_steps.specs.Steps.{client_up, Allowed};
-ghost use Rattle.run_state.specs.Recording.{is_tape_full, noted};
+ghost use Rattle.run_shared.specs.Recording.{is_tape_full, noted};
 ghost use Rattle.run_shared.specs.Made.{IsMadeInto};
 ghost use Rattle.run_log.specs.Follows.{Follows};
 ghost use Rattle.run_shared.specs.Reached.{entry, IsFirst, IsReached};
@@ -13,16 +13,20 @@ ghost use Rattle.run_shared.specs.Taped.{IsOfHistory};
 ghost use Rattle.run_shared.specs.Pumping.{GoesOn, IsPumpedNext, IsPumpedRun, MayGoOn};
 ghost use Rattle.run_shared.specs.Turn.{last_call, pass_at, pass_behind, Answers, IsMadeReady, Steps};
 
+use crate::awake_writers::AwakeWriters;
 use crate::course::{Course, Made};
+use crate::figures::Figures;
+use crate::holdback::Load;
+use crate::pacing::Pacing;
 use crate::pass::Pass;
 use crate::pumped::{PumpRun, Pumped};
+use crate::recorder::Recorder;
+use crate::tally::Tally;
+use crate::wake_set::WakeSet;
 use gw_model::{Memory, Observation};
-use run_ends::{Batch, LONGEST_APDU, apdu_in};
+use gw_steps::{Machine, NewsPiece, Reply, Step, StepFault, StepKind, apdu_in};
+use iec_apci::{Batch, LONGEST_APDU};
 use run_log::Head;
-use run_state::{
-    AwakeWriters, Figures, Load, Machine, NewsPiece, Pacing, Recorder, Reply, Step, StepFault,
-    StepKind, Tally, WakeSet,
-};
 use std::alloc::Global;
 use std::marker::Model;
 use std::sync::ledger::{Book, Share};
@@ -46,7 +50,7 @@ pub struct Core<L: Course, M: Machine> {
 
 impl<L: Course, M: Machine> Model for Core<L, M> {
     ghost use Rattle.std.specs.Prelude.{◌≡◌, length, sum};
-    ghost use Rattle.run_state.specs.Recording.{Replays};
+    ghost use Rattle.run_shared.specs.Recording.{Replays};
     ghost use Rattle.run_shared.specs.Reached.{IsReached};
     ghost use Rattle.run_shared.specs.Roles.{KeepsRoles};
     ghost use Rattle.run_shared.specs.Taped.{IsOfHistory};

@@ -5,8 +5,8 @@ ghost use Rattle.run_shared.specs.Roles.{KeepsRoles};
 ghost use Rattle.run_shared.specs.Told.{newest_effects};
 
 use crate::course::{Course, Made};
+use gw_steps::Effects;
 use run_log::Front;
-use run_state::Effects;
 use std::marker::Model;
 use std::sync::ledger::Share;
 

@@ -1,6 +1,6 @@
 //! How a run of pumps went.
 
-use run_state::{Reply, StepFault};
+use gw_steps::{Reply, StepFault};
 
 /// How a run of pumps for a client ended.
 #[derive(Clone, Copy)]

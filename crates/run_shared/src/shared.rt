@@ -7,16 +7,18 @@ ghost use Rattle.run_shared.specs.Turn.{unused};
 use crate::bells::Bells;
 use crate::calls::Calls;
 use crate::course::{Course, Made};
+use crate::figures::Figures;
+use crate::holdback::Load;
 use crate::locked::Core;
 use crate::pass::Pass;
 use crate::pumped::PumpRun;
+use crate::recorder::Recorder;
+use crate::wake_set::WakeSet;
 use gw_model::{Memory, Observation};
+use gw_steps::{Effects, Machine, NewsPiece, Reply, Step, StepFault};
+use iec_apci::Batch;
 use run_clock::Bell;
-use run_ends::Batch;
 use run_log::{Head, Opened};
-use run_state::{
-    Effects, Figures, Load, Machine, NewsPiece, Recorder, Reply, Step, StepFault, WakeSet,
-};
 use std::alloc::Global;
 use std::marker::Model;
 use std::sync::atomic::{AtomicBool, Ordering};

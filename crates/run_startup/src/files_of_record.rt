@@ -2,11 +2,12 @@
 
 use crate::about::about_run;
 use crate::obstacle::Obstacle;
+use crate::piece_files::PieceFiles;
+use crate::pieces::{FolderPieces, Keeping, begin_run};
 use crate::source::Source;
 use crate::system::Environment;
 use crate::unserved::Unserved;
 use cmd_line::RunOptions;
-use run_folder::{FolderPieces, Keeping, PieceFiles, begin_run};
 use std::fs::{self, File, OpenOptions};
 use std::io;
 

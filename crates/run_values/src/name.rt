@@ -1,6 +1,6 @@
 //! What points and outstations are called.
 
-use cmd_names::{OTHER_SEPARATOR, wants_apostrophe};
+use cmd_text::{OTHER_SEPARATOR, wants_apostrophe};
 use csv::WriterBuilder;
 use std::alloc::{AllocError, Global};
 

@@ -1,7 +1,7 @@
 //! What is known of points besides their values.
 
 use crate::name::Name;
-use cmd_names::Names;
+use cmd_text::Names;
 use gw_map::{Row, Settings};
 use gw_model::ObjectKey;
 use std::alloc::{AllocError, Global};

@@ -3,7 +3,7 @@
 use crate::status_source::StatusSource;
 use crate::values::{Range, Values};
 use gw_model::Memory;
-use gw_threads::Clock;
+use run_clock::Clock;
 use run_http::{HttpRequest, Query, RequestFault, Resource, answer, refuse};
 use run_peers::Reporter;
 use run_values::{Choice, FIRST_ROWS, Form, POLICY, PointsPage};

@@ -1,14 +1,13 @@
 //! What an operator is told of controls: each command that comes, what the client is told of it, each request that is
 //! given for it, and what becomes of it.
 
-use gw_threads::{
-    ApduKind, Clock, Effects, Fate, OrderEnd, Pumps, Reply, StepKind, order_accepted,
-};
 use iec_apci::Apdus;
 use iec_command::Command;
 use iec_command::causes::{ACTIVATION_CONFIRMATION, DEACTIVATION_CONFIRMATION};
+use run_clock::Clock;
 use run_journal::{CommandEvent, JournalEvent, OrderEvent, Reason};
 use run_peers::Reporter;
+use run_shared::{ApduKind, Effects, Fate, OrderEnd, Pumps, Reply, StepKind, order_accepted};
 use std::sync::Wait;
 
 /// The octets in front of an ASDU in its APDU.

@@ -1,7 +1,7 @@
 //! Spontaneous observations on their way to a file.
 
 use gw_model::{Memory, Observation};
-use gw_threads::Bell;
+use run_clock::Bell;
 use run_values::{Entry, WaitingEvents};
 use std::alloc::{AllocError, Global};
 use std::sync::atomic::{AtomicU64, Ordering};

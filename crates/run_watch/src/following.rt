@@ -3,8 +3,9 @@
 
 use crate::status_source::StatusSource;
 use gw_model::Observation;
-use gw_threads::{Calls, Clock, Course};
+use run_clock::Clock;
 use run_peers::Reporter;
+use run_shared::{Calls, Course};
 use run_values::PointValue;
 use std::rt::Clock as Sleeps;
 use std::sync::Wait;

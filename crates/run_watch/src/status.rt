@@ -5,10 +5,11 @@ use crate::asked_values::{AskedValues, answer_values, refuse_values};
 use crate::status_source::StatusSource;
 use crate::values::Values;
 use gw_model::Memory;
-use gw_threads::{Calls, Clock, Course, Figures, OrderCounts, pause};
 use run_admission::look_up_from_accept;
+use run_clock::Clock;
 use run_http::{HttpRequest, Query, RequestFault, Resource, answer, receive, refuse};
 use run_peers::{ClientRecord, OutstationLink, OutstationRecord, Reporter, shut};
+use run_shared::{Calls, Course, Figures, OrderCounts, pause};
 use run_status::{
     ClientState, ClientStatus, Health, Life, Metrics, OrderStatus, OutstationStatus, Page,
     ProcessStatus, Status, Verdict, is_alive,

@@ -3,13 +3,14 @@
 
 use crate::controls::{note_refusal, tell_end, tell_of_commands, tell_of_controls};
 use dnp_app::AppFault;
-use gw_threads::{
-    ApduKind, Clock, Effects, FrameHeader, Gate, Observer, Place, Pumps, Reply, Reported, Step,
-    StepFault, StepKind, UnknownAsdu, Verdict,
-};
 use iec_apci::{Apdu, Apdus, Signal};
+use run_clock::Clock;
 use run_journal::{JournalEvent, Unreadable, Way};
 use run_peers::{Reporter, StepSource};
+use run_shared::{
+    ApduKind, Effects, FrameHeader, Gate, Observer, Place, Pumps, Reply, Reported, Step, StepFault,
+    StepKind, UnknownAsdu, Verdict,
+};
 use std::sync::Wait;
 
 /// Where the control field of an APDU begins, and with which octet that of a TESTFR act does (IEC 60870-5-104, 5.1).

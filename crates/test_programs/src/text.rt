@@ -1,6 +1,6 @@
 //! Tests of cmd_text.
 use crate::checks::{same_list, same_text};
-use cmd_text::write_refusal;
+use cmd_replay::write_refusal;
 use dnp_app::AppFault;
 use dnp_objects::{HeaderFault, ObjectFault};
 use gw_model::Memory;

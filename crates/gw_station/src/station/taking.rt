@@ -20,7 +20,7 @@ ghost use Rattle.iec_apci.specs.declared.apdu.Apdu.TheVariants as formats;
 
 use crate::client::Stage;
 use crate::cursor::Cursor;
-use crate::event::{Event, Said, Why};
+use crate::event::{Event, Said};
 use crate::queue::push;
 use crate::rest::PartsLeft;
 use crate::ring::NewsRing;
@@ -32,7 +32,7 @@ use gw_answers::{
 use gw_judge::{Judged, judge};
 use gw_map::Settings;
 use gw_model::{Memory, Observation};
-use iec_apci::{Apdu, Asdu, Signal};
+use iec_apci::{Apdu, Asdu, Signal, Why};
 use iec_command::Command;
 use iec_command::causes::ACTIVATION_TERMINATION;
 

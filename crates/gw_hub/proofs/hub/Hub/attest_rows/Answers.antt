@@ -1,6 +1,6 @@
 use Rattle.std.proofs.Common.{subst}
 use Rattle.gw_steps.specs.State.{Hub}
-use Rattle.law_history.specs.Premises.{HasKnownRows}
+use Rattle.gw_steps.specs.Premises.{HasKnownRows}
 use Rattle.gw_hub.proofs.hub.Hub.attest_rows.Goals as goal
 
 pub returns : goal.returns

@@ -5,7 +5,7 @@ use Rattle.gw_steps.specs.declared.step.Reply.{Reply}
 use Rattle.gw_steps.specs.declared.step.StepFault.{StepFault}
 use Rattle.gw_steps.specs.Runs.{history}
 use Rattle.std.specs.List.{AllByRecursion}
-use Rattle.law_history.specs.Premises.{IsSoundRun}
+use Rattle.gw_steps.specs.Premises.{IsSoundRun}
 use Rattle.law_orders.specs.Bonds.{HasShortIndex, IsControlRun}
 use Rattle.law_orders.proofs.Bonded.{bound, told_once}
 use Rattle.law_orders.proofs.Follows.{told_when_due}

@@ -2,7 +2,7 @@ use Rattle.std.specs.List.{filter}
 use Rattle.std.proofs.Common.{◌≡◌, ◌≤◌, ◌+◌, ◌*◌, List, length, map, take, length-append, ap, ◌∙◌, arith}
 use Rattle.std.proofs.lemmas.List.{take_all}
 use Rattle.gw_control.specs.Orders.{Outgoing}
-use Rattle.gw_steps.specs.declared.effects.Fate.TheVariants.{LetGo}
+use Rattle.dnp_master.specs.declared.fate.Fate.TheVariants.{LetGo}
 use Rattle.gw_steps.specs.declared.effects.OrderEnd.{OrderEnd}
 use Rattle.gw_steps.specs.Effects.{is_of_leaving, let_go, order_end, with_ends, Telling}
 use Rattle.gw_steps.proofs.Ending.{go_next, more_ended, none_ended, same_room}

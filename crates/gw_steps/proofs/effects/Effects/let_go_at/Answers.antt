@@ -4,7 +4,7 @@ use Rattle.std.proofs.Common.{◌≡◌, ◌<◌, ◌≤◌, ◌+◌, List, [], 
 use Rattle.std.proofs.Common.{map, take, None, Some, sym, ap, ◌∙◌, arith}
 use Rattle.std.proofs.lemmas.List.{take_all}
 use Rattle.gw_control.specs.declared.accepted.Accepted.{Accepted}
-use Rattle.gw_steps.specs.declared.effects.Fate.TheVariants.{LetGo}
+use Rattle.dnp_master.specs.declared.fate.Fate.TheVariants.{LetGo}
 use Rattle.gw_steps.specs.Effects.{is_of_leaving, order_end, with_ends}
 use Rattle.gw_steps.proofs.Ending.{more_ended, none_ended, one_chosen, one_more, same_room, something_at}
 use Rattle.gw_steps.proofs.effects.Effects.let_go_at.Goals as goal

@@ -1,7 +1,7 @@
 -- Those before this place are let go.
 use Rattle.std.proofs.Common.{map, take}
 use Rattle.std.specs.List.{filter}
-use Rattle.gw_steps.specs.declared.effects.Fate.TheVariants.{LetGo}
+use Rattle.dnp_master.specs.declared.fate.Fate.TheVariants.{LetGo}
 use Rattle.gw_steps.specs.Effects.{is_of_leaving, order_end}
 use Rattle.gw_steps.proofs.Ending.{HasEnded}
 use Rattle.gw_steps.proofs.effects.Effects.let_go_at.Given as goal

@@ -3,7 +3,7 @@ use Rattle.std.proofs.Common.{◌≡◌, ◌<◌, ◌≤◌, ◌+◌, List, [], 
 use Rattle.std.proofs.Common.{map, take, None, Some, sym, ap, ◌∙◌, arith}
 use Rattle.std.proofs.lemmas.List.{take_all}
 use Rattle.gw_control.specs.declared.accepted.Accepted.{Accepted}
-use Rattle.gw_steps.specs.declared.effects.Fate.TheVariants.{Lost}
+use Rattle.dnp_master.specs.declared.fate.Fate.TheVariants.{Lost}
 use Rattle.gw_steps.specs.declared.effects.OrderEnd.{OrderEnd}
 use Rattle.gw_steps.specs.Effects.{order_end, with_ends}
 use Rattle.gw_steps.proofs.Ending.{more_ended, none_ended, next_of_all, same_room, something_at}

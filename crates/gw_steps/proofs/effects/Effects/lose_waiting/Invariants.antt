@@ -1,6 +1,6 @@
 -- Those before this place are lost.
 use Rattle.std.proofs.Common.{map, take}
-use Rattle.gw_steps.specs.declared.effects.Fate.TheVariants.{Lost}
+use Rattle.dnp_master.specs.declared.fate.Fate.TheVariants.{Lost}
 use Rattle.gw_steps.specs.Effects.{order_end}
 use Rattle.gw_steps.proofs.Ending.{HasEnded}
 use Rattle.gw_steps.proofs.effects.Effects.lose_waiting.Given as goal

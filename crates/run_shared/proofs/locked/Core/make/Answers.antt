@@ -5,8 +5,8 @@ use Rattle.gw_steps.specs.declared.step.Step.{Step}
 use Rattle.gw_steps.specs.Runs.{Entry}
 use Rattle.run_log.specs.Follows.{Known, Whole}
 use Rattle.gw_steps.specs.Steps.{Allowed}
-use Rattle.run_state.specs.Recording.{Recording, Replays, noted}
-use Rattle.run_state.proofs.Replaying.{replays-push}
+use Rattle.run_shared.specs.Recording.{Recording, Replays, noted}
+use Rattle.run_shared.proofs.Replaying.{replays-push}
 use Rattle.run_shared.proofs.Counting.{length-raised, sum-raised}
 use Rattle.run_shared.specs.Reached.{Deed, entry}
 use Rattle.run_shared.specs.Roles.{KeepsRoles, MayMake}

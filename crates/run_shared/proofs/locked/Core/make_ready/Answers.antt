@@ -1,6 +1,6 @@
 use Rattle.std.proofs.Common.{◌≡◌, length, subst, sym}
 use Rattle.std.specs.Prelude.{sum}
-use Rattle.run_state.specs.Recording.{Recording, Replays}
+use Rattle.run_shared.specs.Recording.{Recording, Replays}
 use Rattle.run_shared.specs.Taped.{IsOfHistory}
 use Rattle.run_shared.proofs.Taping.{replays_rolled, rolled_of}
 use Rattle.run_shared.proofs.locked.Core.make_ready.Goals as goal

@@ -1,7 +1,7 @@
 use Rattle.std.proofs.Common.{◌≡◌, ◌∙◌, ℕ, List, [], Option, length, ap, sym, subst, rules, arith}
 use Rattle.std.proofs.lemmas.Grind.{common_steps}
 use Rattle.std.specs.Prelude.{sum}
-use Rattle.run_state.specs.Recording.{Recording, Replays, Tape}
+use Rattle.run_shared.specs.Recording.{Recording, Replays, Tape}
 use Rattle.run_shared.specs.Roles.{KeepsRoles}
 use Rattle.run_shared.specs.Taped.{IsOfHistory}
 use Rattle.run_shared.proofs.Reaching.{reached_first}

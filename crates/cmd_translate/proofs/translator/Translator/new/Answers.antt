@@ -1,5 +1,0 @@
-use Rattle.std.proofs.Common.{refl}
-use Rattle.cmd_translate.proofs.translator.Translator.new.Goals as goal
-
-pub returns : goal.returns
-returns c = rw c.in_ok-new.ensures.shown refl

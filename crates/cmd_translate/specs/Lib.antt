@@ -1,4 +1,0 @@
-pub mod Standing
-pub mod Translation
-pub mod Answers
-pub mod KeptLaws
