@@ -42,6 +42,7 @@ AreAnswered {S} R number before (line ∷ lines) goes_on text last =
     ((goes_on ≡ false) × (rest ≡ []) × (last ≡ now))
 
 -- the lines of an input were, and a writer has got just their answers
-abbrev pub IsAnswered : {S : Type 0} → Answering S → S → List ℕ → Bool → Option (List ℕ) → Option (List ℕ) → S → Type 0
+abbrev pub IsAnswered : {S : Type 0} → Answering S → S → List ℕ → Bool → Option (List ℕ) → Option (List ℕ)
+    → S → Type 0
 IsAnswered R before input goes_on old new last =
     (text : List ℕ) × Appends old new text × AreAnswered R 1 before (lines_of input) goes_on text last

@@ -5,3 +5,4 @@ pub mod SteppedOver
 pub mod Requests
 pub mod Asking
 pub mod Operating
+pub mod Example

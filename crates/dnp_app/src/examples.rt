@@ -1,5 +1,5 @@
 //! Worked examples of the definitions, computed by the definitions themselves.
-ghost use Rattle.std.specs.Prelude.{◌≡◌, ℕ, pos, negsuc, [], ◌∷◌, map, Ok, Err, Some, None, true, false};
+ghost use Rattle.std.specs.Prelude.{◌≡◌, ℕ, pos, negsuc, [], ◌∷◌, ◌++◌, map, Ok, Err, Some, None, true, false};
 ghost use Rattle.dnp_objects.specs.Headers.{number};
 ghost use Rattle.dnp_objects.specs.declared.fault.HeaderFault.TheVariants.{UnknownObject, ShortData};
 ghost use Rattle.dnp_points.specs.Objects.{binary_report};
@@ -16,6 +16,7 @@ ghost use Rattle.gw_model.specs.declared.control.Shape.TheVariants.{Latch, Pulse
 ghost use Rattle.dnp_app.specs.declared.operation.Operation.TheVariants.{Select, Operate, DirectOperate};
 ghost use Rattle.dnp_app.specs.Requests.{control_octets};
 ghost use Rattle.dnp_app.specs.Operating.{operates_for, operating_of};
+ghost use Rattle.dnp_app.specs.Example.{relay_header, response_front};
 
 /// What some fragments are, read for an outstation, and which fault others have.
 #[tactic(auto, unfolding(dnp_objects::specs::Headers::headers_from, dnp_objects::specs::Library::object_of, dnp_points::specs::Objects::point_report))]
@@ -80,8 +81,8 @@ pub fn echoes_by_example()
     // A control relay output block under 28, whatever its octets are: index of two octets, code, count, on-time,
     // off-time and status.
     ensures relay { (low high code count on₀ on₁ on₂ on₃ off₀ off₁ off₂ off₃ status : ℕ)
-        → echo_of (0xC1 ∷ 0x81 ∷ 0x00 ∷ 0x00 ∷ 0x0C ∷ 0x01 ∷ 0x28 ∷ 0x01 ∷ 0x00 ∷ low ∷ high ∷ code ∷ count ∷ on₀
-        ∷ on₁ ∷ on₂ ∷ on₃ ∷ off₀ ∷ off₁ ∷ off₂ ∷ off₃ ∷ status ∷ [])
+        → echo_of (response_front 0xC1 ++ relay_header ++ low ∷ high
+        ∷ code ∷ count ∷ on₀ ∷ on₁ ∷ on₂ ∷ on₃ ∷ off₀ ∷ off₁ ∷ off₂ ∷ off₃ ∷ status ∷ [])
         ≡ Some (record {
           index = number (low ∷ high ∷ []);
           group = 12;
@@ -90,16 +91,16 @@ pub fn echoes_by_example()
         }) }
     // A 16-bit analog output under 28, and under 17: its value, and zeros.
     ensures setpoint { (low high value₀ value₁ status : ℕ)
-        → echo_of (0xC1 ∷ 0x81 ∷ 0x00 ∷ 0x00 ∷ 0x29 ∷ 0x02 ∷ 0x28 ∷ 0x01 ∷ 0x00 ∷ low ∷ high ∷ value₀ ∷ value₁
-        ∷ status ∷ [])
+        → echo_of (response_front 0xC1 ++ 0x29 ∷ 0x02 ∷ 0x28 ∷ 0x01 ∷ 0x00 ∷ low ∷ high
+        ∷ value₀ ∷ value₁ ∷ status ∷ [])
         ≡ Some (record {
           index = number (low ∷ high ∷ []);
           group = 41;
           body = value₀ ∷ value₁ ∷ 0 ∷ 0 ∷ 0 ∷ 0 ∷ 0 ∷ 0 ∷ 0 ∷ 0 ∷ 0 ∷ [];
           status = status;
         }) }
-    ensures one_octet_of_index { echo_of (0xC0 ∷ 0x81 ∷ 0x00 ∷ 0x00 ∷ 0x29 ∷ 0x02 ∷ 0x17 ∷ 0x01 ∷ 0xFF ∷ 0xE8
-        ∷ 0x03 ∷ 0x04 ∷ [])
+    ensures one_octet_of_index { echo_of (response_front 0xC0 ++ 0x29 ∷ 0x02 ∷ 0x17 ∷ 0x01 ∷ 0xFF
+        ∷ 0xE8 ∷ 0x03 ∷ 0x04 ∷ [])
         ≡ Some (record {
           index = 255;
           group = 41;
@@ -107,13 +108,13 @@ pub fn echoes_by_example()
           status = 4;
         }) }
     // Two such headers are no echo, though they are alike; nor are two commands under one header, nor none.
-    ensures two_headers { echo_of (0xC0 ∷ 0x81 ∷ 0x00 ∷ 0x00 ∷ 0x29 ∷ 0x02 ∷ 0x17 ∷ 0x01 ∷ 0x04 ∷ 0xE8 ∷ 0x03
-        ∷ 0x00 ∷ 0x29 ∷ 0x02 ∷ 0x17 ∷ 0x01 ∷ 0x04 ∷ 0xE8 ∷ 0x03 ∷ 0x00 ∷ []) ≡ None }
-    ensures two_commands { echo_of (0xC0 ∷ 0x81 ∷ 0x00 ∷ 0x00 ∷ 0x29 ∷ 0x02 ∷ 0x17 ∷ 0x02 ∷ 0x04 ∷ 0xE8 ∷ 0x03
-        ∷ 0x00 ∷ 0x05 ∷ 0xE8 ∷ 0x03 ∷ 0x00 ∷ []) ≡ None }
-    ensures no_command { echo_of (0xC0 ∷ 0x81 ∷ 0x00 ∷ 0x00 ∷ 0x29 ∷ 0x02 ∷ 0x17 ∷ 0x00 ∷ []) ≡ None }
+    ensures two_headers { echo_of (response_front 0xC0 ++ 0x29 ∷ 0x02 ∷ 0x17 ∷ 0x01 ∷ 0x04 ∷ 0xE8 ∷ 0x03 ∷ 0x00
+        ∷ 0x29 ∷ 0x02 ∷ 0x17 ∷ 0x01 ∷ 0x04 ∷ 0xE8 ∷ 0x03 ∷ 0x00 ∷ []) ≡ None }
+    ensures two_commands { echo_of (response_front 0xC0 ++ 0x29 ∷ 0x02 ∷ 0x17 ∷ 0x02 ∷ 0x04 ∷ 0xE8 ∷ 0x03 ∷ 0x00
+        ∷ 0x05 ∷ 0xE8 ∷ 0x03 ∷ 0x00 ∷ []) ≡ None }
+    ensures no_command { echo_of (response_front 0xC0 ++ 0x29 ∷ 0x02 ∷ 0x17 ∷ 0x00 ∷ []) ≡ None }
     // Headers with no command or with two, and those of other objects, don't matter beside one that has one.
-    ensures beside_others { echo_of (0xC0 ∷ 0x81 ∷ 0x00 ∷ 0x00 ∷ 0x0C ∷ 0x01 ∷ 0x28 ∷ 0x00 ∷ 0x00
+    ensures beside_others { echo_of (response_front 0xC0 ++ 0x0C ∷ 0x01 ∷ 0x28 ∷ 0x00 ∷ 0x00
         ∷ 0x29 ∷ 0x02 ∷ 0x17 ∷ 0x02 ∷ 0x04 ∷ 0xE8 ∷ 0x03 ∷ 0x00 ∷ 0x05 ∷ 0xE8 ∷ 0x03 ∷ 0x00
         ∷ 0x29 ∷ 0x02 ∷ 0x27 ∷ 0x01 ∷ 0x05 ∷ 0x01 ∷ 0x18 ∷ 0xFC ∷ 0x01
         ∷ 0x02 ∷ 0x01 ∷ 0x17 ∷ 0x01 ∷ 0x05 ∷ 0x81 ∷ [])
@@ -124,9 +125,9 @@ pub fn echoes_by_example()
           status = 1;
         }) }
     // An event of an analog output tells what was commanded, and is no echo.
-    ensures output_event { echo_of (0xC0 ∷ 0x81 ∷ 0x00 ∷ 0x00 ∷ 0x2A ∷ 0x02 ∷ 0x17 ∷ 0x01 ∷ 0x04 ∷ 0x01 ∷ 0x07
-        ∷ 0x00 ∷ []) ≡ None }
-    ensures reports_alone { echo_of (0xC0 ∷ 0x81 ∷ 0x00 ∷ 0x00 ∷ 0x02 ∷ 0x01 ∷ 0x17 ∷ 0x01 ∷ 0x05 ∷ 0x81 ∷ []) ≡ None }
+    ensures output_event { echo_of (response_front 0xC0 ++ 0x2A ∷ 0x02 ∷ 0x17 ∷ 0x01 ∷ 0x04 ∷ 0x01 ∷ 0x07 ∷ 0x00 ∷ [])
+        ≡ None }
+    ensures reports_alone { echo_of (response_front 0xC0 ++ 0x02 ∷ 0x01 ∷ 0x17 ∷ 0x01 ∷ 0x05 ∷ 0x81 ∷ []) ≡ None }
 {}
 
 /// How many objects of some fragments are stepped over.
@@ -161,7 +162,8 @@ pub fn stepped_over_by_example()
 /// The octets of requests, and what octets ask for that this master doesn't write.
 pub fn requests_by_example()
     ensures integrity { read_octets true 0
-        ≡ 0xC0 ∷ 0x01 ∷ 0x3C ∷ 0x02 ∷ 0x06 ∷ 0x3C ∷ 0x03 ∷ 0x06 ∷ 0x3C ∷ 0x04 ∷ 0x06 ∷ 0x3C ∷ 0x01 ∷ 0x06 ∷ [] }
+        ≡ 0xC0 ∷ 0x01 ∷ 0x3C ∷ 0x02 ∷ 0x06 ∷ 0x3C ∷ 0x03 ∷ 0x06 ∷ 0x3C ∷ 0x04 ∷ 0x06
+        ∷ 0x3C ∷ 0x01 ∷ 0x06 ∷ [] }
     ensures events { read_octets false 2
         ≡ 0xC2 ∷ 0x01 ∷ 0x3C ∷ 0x02 ∷ 0x06 ∷ 0x3C ∷ 0x03 ∷ 0x06 ∷ 0x3C ∷ 0x04 ∷ 0x06 ∷ [] }
     ensures disable { disable_octets 0
@@ -191,34 +193,34 @@ pub fn requests_by_example()
 pub fn control_requests_by_example()
     // A latch on of output 3; pulses of half a second on and of two seconds off.
     ensures latch { control_octets DirectOperate 3 (Switch true Latch) 1
-        ≡ 0xC1 ∷ 0x05 ∷ 0x0C ∷ 0x01 ∷ 0x28 ∷ 0x01 ∷ 0x00 ∷ 0x03 ∷ 0x00 ∷ 0x03 ∷ 0x01 ∷ 0x00 ∷ 0x00 ∷ 0x00 ∷ 0x00
-        ∷ 0x00 ∷ 0x00 ∷ 0x00 ∷ 0x00 ∷ 0x00 ∷ [] }
+        ≡ 0xC1 ∷ 0x05 ∷ relay_header ++ 0x03 ∷ 0x00
+        ∷ 0x03 ∷ 0x01 ∷ 0x00 ∷ 0x00 ∷ 0x00 ∷ 0x00 ∷ 0x00 ∷ 0x00 ∷ 0x00 ∷ 0x00 ∷ 0x00 ∷ [] }
     ensures pulse_on { control_octets DirectOperate 3 (Switch true (Pulse 500)) 1
-        ≡ 0xC1 ∷ 0x05 ∷ 0x0C ∷ 0x01 ∷ 0x28 ∷ 0x01 ∷ 0x00 ∷ 0x03 ∷ 0x00 ∷ 0x41 ∷ 0x01 ∷ 0xF4 ∷ 0x01 ∷ 0x00 ∷ 0x00
-        ∷ 0x00 ∷ 0x00 ∷ 0x00 ∷ 0x00 ∷ 0x00 ∷ [] }
+        ≡ 0xC1 ∷ 0x05 ∷ relay_header ++ 0x03 ∷ 0x00
+        ∷ 0x41 ∷ 0x01 ∷ 0xF4 ∷ 0x01 ∷ 0x00 ∷ 0x00 ∷ 0x00 ∷ 0x00 ∷ 0x00 ∷ 0x00 ∷ 0x00 ∷ [] }
     ensures pulse_off { control_octets Select 3 (Switch false (Pulse 2000)) 15
-        ≡ 0xCF ∷ 0x03 ∷ 0x0C ∷ 0x01 ∷ 0x28 ∷ 0x01 ∷ 0x00 ∷ 0x03 ∷ 0x00 ∷ 0x81 ∷ 0x01 ∷ 0xD0 ∷ 0x07 ∷ 0x00 ∷ 0x00
-        ∷ 0x00 ∷ 0x00 ∷ 0x00 ∷ 0x00 ∷ 0x00 ∷ [] }
+        ≡ 0xCF ∷ 0x03 ∷ relay_header ++ 0x03 ∷ 0x00
+        ∷ 0x81 ∷ 0x01 ∷ 0xD0 ∷ 0x07 ∷ 0x00 ∷ 0x00 ∷ 0x00 ∷ 0x00 ∷ 0x00 ∷ 0x00 ∷ 0x00 ∷ [] }
     // Output 4 set to 1000, and output 258 to -2.
     ensures setpoint { control_octets Select 4 (Set (pos 1000)) 1
         ≡ 0xC1 ∷ 0x03 ∷ 0x29 ∷ 0x02 ∷ 0x28 ∷ 0x01 ∷ 0x00 ∷ 0x04 ∷ 0x00 ∷ 0xE8 ∷ 0x03 ∷ 0x00 ∷ [] }
     ensures negative { control_octets Operate 258 (Set (negsuc 1)) 2
         ≡ 0xC2 ∷ 0x04 ∷ 0x29 ∷ 0x02 ∷ 0x28 ∷ 0x01 ∷ 0x00 ∷ 0x02 ∷ 0x01 ∷ 0xFE ∷ 0xFF ∷ 0x00 ∷ [] }
     // Read from octets alone: a latch off, and the least value that there is.
-    ensures latch_off { operating_of (0xC1 ∷ 0x04 ∷ 0x0C ∷ 0x01 ∷ 0x28 ∷ 0x01 ∷ 0x00 ∷ 0x03 ∷ 0x00 ∷ 0x04 ∷ 0x01
-        ∷ 0 ∷ 0 ∷ 0 ∷ 0 ∷ 0 ∷ 0 ∷ 0 ∷ 0 ∷ 0 ∷ []) ≡ operates_for 1 Operate 3 (Switch false Latch) }
+    ensures latch_off { operating_of (0xC1 ∷ 0x04 ∷ relay_header ++ 0x03 ∷ 0x00
+        ∷ 0x04 ∷ 0x01 ∷ 0 ∷ 0 ∷ 0 ∷ 0 ∷ 0 ∷ 0 ∷ 0 ∷ 0 ∷ 0 ∷ []) ≡ operates_for 1 Operate 3 (Switch false Latch) }
     ensures least { operating_of (0xC0 ∷ 0x03 ∷ 0x29 ∷ 0x02 ∷ 0x28 ∷ 0x01 ∷ 0x00 ∷ 0x00 ∷ 0x01 ∷ 0x00 ∷ 0x80 ∷ 0x00
         ∷ []) ≡ operates_for 0 Select 256 (Set (negsuc 32767)) }
     // CLOSE without PULSE_ON; a latch with an on-time; twice; an off-time; a status; two outputs; an index of an octet;
     // DIRECT_OPERATE without acknowledgement; a request that reads.
-    ensures other_code { operating_of (0xC0 ∷ 0x05 ∷ 0x0C ∷ 0x01 ∷ 0x28 ∷ 0x01 ∷ 0x00 ∷ 0x03 ∷ 0x00 ∷ 0x40 ∷ 0x01 ∷ 1
-        ∷ 0 ∷ 0 ∷ 0 ∷ 0 ∷ 0 ∷ 0 ∷ 0 ∷ 0 ∷ []) ≡ None }
-    ensures timed_latch { operating_of (0xC0 ∷ 0x05 ∷ 0x0C ∷ 0x01 ∷ 0x28 ∷ 0x01 ∷ 0x00 ∷ 0x03 ∷ 0x00 ∷ 0x03 ∷ 0x01 ∷ 1
-        ∷ 0 ∷ 0 ∷ 0 ∷ 0 ∷ 0 ∷ 0 ∷ 0 ∷ 0 ∷ []) ≡ None }
-    ensures twice { operating_of (0xC0 ∷ 0x05 ∷ 0x0C ∷ 0x01 ∷ 0x28 ∷ 0x01 ∷ 0x00 ∷ 0x03 ∷ 0x00 ∷ 0x41 ∷ 0x02 ∷ 1
-        ∷ 0 ∷ 0 ∷ 0 ∷ 0 ∷ 0 ∷ 0 ∷ 0 ∷ 0 ∷ []) ≡ None }
-    ensures off_time { operating_of (0xC0 ∷ 0x05 ∷ 0x0C ∷ 0x01 ∷ 0x28 ∷ 0x01 ∷ 0x00 ∷ 0x03 ∷ 0x00 ∷ 0x41 ∷ 0x01 ∷ 1
-        ∷ 0 ∷ 0 ∷ 0 ∷ 0 ∷ 0 ∷ 0 ∷ 1 ∷ 0 ∷ []) ≡ None }
+    ensures other_code { operating_of (0xC0 ∷ 0x05 ∷ relay_header ++ 0x03 ∷ 0x00
+        ∷ 0x40 ∷ 0x01 ∷ 1 ∷ 0 ∷ 0 ∷ 0 ∷ 0 ∷ 0 ∷ 0 ∷ 0 ∷ 0 ∷ []) ≡ None }
+    ensures timed_latch { operating_of (0xC0 ∷ 0x05 ∷ relay_header ++ 0x03 ∷ 0x00
+        ∷ 0x03 ∷ 0x01 ∷ 1 ∷ 0 ∷ 0 ∷ 0 ∷ 0 ∷ 0 ∷ 0 ∷ 0 ∷ 0 ∷ []) ≡ None }
+    ensures twice { operating_of (0xC0 ∷ 0x05 ∷ relay_header ++ 0x03 ∷ 0x00
+        ∷ 0x41 ∷ 0x02 ∷ 1 ∷ 0 ∷ 0 ∷ 0 ∷ 0 ∷ 0 ∷ 0 ∷ 0 ∷ 0 ∷ []) ≡ None }
+    ensures off_time { operating_of (0xC0 ∷ 0x05 ∷ relay_header ++ 0x03 ∷ 0x00
+        ∷ 0x41 ∷ 0x01 ∷ 1 ∷ 0 ∷ 0 ∷ 0 ∷ 0 ∷ 0 ∷ 0 ∷ 1 ∷ 0 ∷ []) ≡ None }
     ensures with_status { operating_of (0xC0 ∷ 0x05 ∷ 0x29 ∷ 0x02 ∷ 0x28 ∷ 0x01 ∷ 0x00 ∷ 0x04 ∷ 0x00 ∷ 0xE8 ∷ 0x03
         ∷ 0x04 ∷ []) ≡ None }
     ensures two_outputs { operating_of (0xC0 ∷ 0x05 ∷ 0x29 ∷ 0x02 ∷ 0x28 ∷ 0x02 ∷ 0x00 ∷ 0x04 ∷ 0x00 ∷ 0xE8 ∷ 0x03

@@ -2,7 +2,7 @@
 ghost use Rattle.std.specs.Prelude.{◌≡◌, true, false, [], ◌∷◌, ◌++◌, replicate, Some, None, codes};
 ghost use Rattle.dnp_link.specs.Crc.{crc_of};
 ghost use Rattle.dnp_link.specs.Stream.{Framed, Dropped, reading};
-ghost use Rattle.dnp_link.specs.Examples.{replies_to};
+ghost use Rattle.dnp_link.specs.Examples.{first_nine, first_six, replies_to};
 ghost use Rattle.dnp_link.specs.declared.event.SkipReason.TheVariants.{BadStart, BadLength, BadHeaderCrc};
 
 /// The check value of the CRC.
@@ -19,20 +19,19 @@ pub fn streams()
       events = Framed (record { control = 0xC0; destination = 1; source = 1024; user = [] }) ∷ [];
       rest = [];
     } }
-    ensures waits { reading (0x05 ∷ 0x64 ∷ 0x05 ∷ 0xC0 ∷ 0x01 ∷ 0x00 ∷ 0x00 ∷ 0x04 ∷ 0xE9 ∷ []) ≡ record {
+    ensures waits { reading first_nine ≡ record {
       events = [];
-      rest = 0x05 ∷ 0x64 ∷ 0x05 ∷ 0xC0 ∷ 0x01 ∷ 0x00 ∷ 0x00 ∷ 0x04 ∷ 0xE9 ∷ [];
+      rest = first_nine;
     } }
-    ensures wrong_crc { reading (0x05 ∷ 0x64 ∷ 0x05 ∷ 0xC0 ∷ 0x01 ∷ 0x00 ∷ 0x00 ∷ 0x04 ∷ 0xE9 ∷ 0x20 ∷ []) ≡ record {
+    ensures wrong_crc { reading (first_nine ++ 0x20 ∷ []) ≡ record {
       events = Dropped BadHeaderCrc ∷ replicate 9 (Dropped BadStart);
       rest = [];
     } }
-    ensures resynchronised { reading (0x05 ∷ 0x64 ∷ 0x05 ∷ 0xC0 ∷ 0x01 ∷ 0x00 ∷ 0x05 ∷ 0x64 ∷ 0x05 ∷ 0xC0 ∷ 0x01 ∷ 0x00
-        ∷ 0x00 ∷ 0x04 ∷ 0xE9 ∷ 0x21 ∷ []) ≡ record {
-          events = Dropped BadHeaderCrc ∷ replicate 5 (Dropped BadStart)
-              ++ Framed (record { control = 0xC0; destination = 1; source = 1024; user = [] }) ∷ [];
-          rest = [];
-        } }
+    ensures resynchronised { reading (first_six ++ first_nine ++ 0x21 ∷ []) ≡ record {
+      events = Dropped BadHeaderCrc ∷ replicate 5 (Dropped BadStart)
+          ++ Framed (record { control = 0xC0; destination = 1; source = 1024; user = [] }) ∷ [];
+      rest = [];
+    } }
     ensures short_length { reading (0x05 ∷ 0x64 ∷ 0x04 ∷ []) ≡ record {
       events = Dropped BadLength ∷ Dropped BadStart ∷ Dropped BadStart ∷ [];
       rest = [];
@@ -42,7 +41,8 @@ pub fn streams()
 /// What a secondary station that was not reset decides on these CONTROL octets, one after another: whether
 /// user data is delivered, and the CONTROL octet of the reply.
 pub fn decisions()
-    ensures in_turn { replies_to None (0x72 ∷ 0x40 ∷ 0x72 ∷ 0x73 ∷ 0x53 ∷ 0x53 ∷ 0x44 ∷ 0x49 ∷ 0x41 ∷ 0xC4 ∷ 0x00 ∷ [])
+    ensures in_turn { replies_to None
+        (0x72 ∷ 0x40 ∷ 0x72 ∷ 0x73 ∷ 0x53 ∷ 0x53 ∷ 0x44 ∷ 0x49 ∷ 0x41 ∷ 0xC4 ∷ 0x00 ∷ [])
         ≡ (false, Some 0x81) ∷ (false, Some 0x80) ∷ (false, Some 0x80) ∷ (false, Some 0x80) ∷ (true, Some 0x80)
         ∷ (false, Some 0x80)
         ∷ (true, None) ∷ (false, Some 0x8B) ∷ (false, Some 0x8F) ∷ (false, None) ∷ (false, None) ∷ [] }

@@ -93,13 +93,18 @@ latched = polled ++ Orders 0 latch ∷ []
 abbrev pub selecting : List Event
 selecting = polled ++ Orders 0 setpoint ∷ []
 
--- an answer with its internal indications, that gives back the object of the latch or of the set point with a status
-abbrev pub latch_answer : List ℕ → ℕ → List ℕ
-latch_answer front status =
-    front ++ 0x0C ∷ 0x01 ∷ 0x28 ∷ 0x01 ∷ 0x00 ∷ 0x03 ∷ 0x00 ∷ 0x03 ∷ 0x01 ∷ 0 ∷ 0 ∷ 0 ∷ 0 ∷ 0 ∷ 0 ∷ 0 ∷ 0 ∷ status ∷ []
+-- the object of the latch and of the set point with a status, each behind its header and its index
+abbrev pub latch_object : ℕ → List ℕ
+latch_object status =
+    0x0C ∷ 0x01 ∷ 0x28 ∷ 0x01 ∷ 0x00 ∷ 0x03 ∷ 0x00
+    ∷ 0x03 ∷ 0x01 ∷ 0 ∷ 0 ∷ 0 ∷ 0 ∷ 0 ∷ 0 ∷ 0 ∷ 0 ∷ status ∷ []
 
 abbrev pub setpoint_object : ℕ → List ℕ
 setpoint_object status = 0x29 ∷ 0x02 ∷ 0x28 ∷ 0x01 ∷ 0x00 ∷ 0x04 ∷ 0x00 ∷ 0xE8 ∷ 0x03 ∷ status ∷ []
+
+-- an answer with its internal indications, that gives back the object of the latch or of the set point with a status
+abbrev pub latch_answer : List ℕ → ℕ → List ℕ
+latch_answer front status = front ++ latch_object status
 
 abbrev pub setpoint_answer : List ℕ → ℕ → List ℕ
 setpoint_answer front status = front ++ setpoint_object status

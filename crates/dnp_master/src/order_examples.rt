@@ -15,6 +15,7 @@ ghost use Rattle.dnp_master.specs.Example.{
   late,
   latch,
   latch_answer,
+  latch_object,
   latched,
   lost,
   operating,
@@ -36,9 +37,7 @@ ghost use Rattle.dnp_master.specs.Example.{
 /// An output is switched at once, by DIRECT_OPERATE.
 #[tactic(auto, unfolding(dnp_objects::specs::Headers::headers_from, dnp_objects::specs::Library::object_of))]
 pub fn direct_operate_by_example()
-    ensures request { ordered plain polled latch
-        ≡ 0xC1 ∷ 0x05 ∷ 0x0C ∷ 0x01 ∷ 0x28 ∷ 0x01 ∷ 0x00 ∷ 0x03 ∷ 0x00 ∷ 0x03 ∷ 0x01 ∷ 0 ∷ 0 ∷ 0 ∷ 0 ∷ 0 ∷ 0 ∷ 0 ∷ 0 ∷ 0
-        ∷ [] }
+    ensures request { ordered plain polled latch ≡ 0xC1 ∷ 0x05 ∷ latch_object 0 }
     // Nothing is given while it awaits its answer, and no other order taken; once it was answered, the next request has
     // the number that follows.
     ensures awaits { given plain latched 4999 0 ≡ None }

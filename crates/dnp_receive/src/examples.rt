@@ -47,7 +47,7 @@ pub fn one_frame()
 
 /// The same fragment as CONFIRMED_USER_DATA: before a reset; after one, and once more after that, with the frame
 /// count bit that is old by then. REQUEST_LINK_STATUS behind the frame without confirmation.
-pub fn confirmed()
+pub fn confirmed_frame()
     ensures refused { stream_replies 1024 1 confirmed_whole_frame ≡ refusal ∷ [] }
     ensures not_delivered { stream_fragments 1024 1 confirmed_whole_frame ≡ [] }
     ensures acknowledged { stream_replies 1024 1 (reset_frame ++ confirmed_whole_frame ++ confirmed_whole_frame)

@@ -28,7 +28,8 @@ pub fn lost_segment()
 
 /// A header alone takes no part: the fragment around it goes on.
 pub fn header_alone()
-    ensures fragments { fragments_of ((0x45 ∷ 1 ∷ []) ∷ (0x80 ∷ []) ∷ [] ∷ (0x86 ∷ 2 ∷ []) ∷ []) ≡ (1 ∷ 2 ∷ []) ∷ [] }
+    ensures fragments { fragments_of ((0x45 ∷ 1 ∷ []) ∷ (0x80 ∷ []) ∷ [] ∷ (0x86 ∷ 2 ∷ []) ∷ [])
+        ≡ (1 ∷ 2 ∷ []) ∷ [] }
     ensures answers { answers_from None ((0x45 ∷ 1 ∷ []) ∷ (0x80 ∷ []) ∷ [] ∷ (0x86 ∷ 2 ∷ []) ∷ [])
         ≡ More ∷ Dropped Empty ∷ Dropped Empty ∷ Fragment (1 ∷ 2 ∷ []) ∷ [] }
 {}

@@ -148,7 +148,8 @@ pub fn runs_by_example()
     // An event's time, at a station whose clocks are an hour ahead of UTC: 23:13:20 on 14 November 2023.
     ensures timed { outcome ahead (after_steps ahead (at_first ahead) (started ++ fragment_of timed ∷ [])) pump
         ≡ Ok (replies.Apdu (buffer (0x68 ∷ 0x15 ∷ 0 ∷ 0 ∷ 0 ∷ 0
-        ∷ 0x1E ∷ 1 ∷ 3 ∷ 0 ∷ 1 ∷ 0 ∷ 0x05 ∷ 0x10 ∷ 0 ∷ 0x01 ∷ 0x20 ∷ 0x4E ∷ 0x0D ∷ 0x17 ∷ 0x0E ∷ 0x0B ∷ 0x17 ∷ []))) }
+        ∷ 0x1E ∷ 1 ∷ 3 ∷ 0 ∷ 1 ∷ 0 ∷ 0x05 ∷ 0x10 ∷ 0 ∷ 0x01
+        ∷ 0x20 ∷ 0x4E ∷ 0x0D ∷ 0x17 ∷ 0x0E ∷ 0x0B ∷ 0x17 ∷ []))) }
 {}
 
 /// A station interrogation while news wait: older news, its confirmation, the picture of its moment, its termination,

@@ -1,5 +1,5 @@
 -- Short words for the worked examples: qualities, observations, ASDUs of originator 0, and what octets mean.
-use Rattle.std.specs.Prelude.{ℕ, Bool, true, false, List, map, Option, Result}
+use Rattle.std.specs.Prelude.{ℕ, Bool, true, false, List, [], ◌∷◌, map, Option, Result}
 use Rattle.gw_model.specs.declared.point.Stamp.TheVariants.{Untimed, At, Doubtful}
 use Rattle.gw_model.specs.declared.observation.Value.{Value}
 use Rattle.gw_model.specs.declared.observation.Value.TheVariants.{Single, Double}
@@ -68,6 +68,10 @@ doubtful_observation address value quality t =
 -- a single-point with time
 abbrev pub single_event : ℕ → Observation
 single_event address = timed_observation address (Single true) good 1700000000000
+
+-- the front of an ASDU: one single-point with time, spontaneous, of common address 1 and address 4101
+abbrev pub event_front : List ℕ
+event_front = 0x1E ∷ 0x01 ∷ 0x03 ∷ 0x00 ∷ 0x01 ∷ 0x00 ∷ 0x05 ∷ 0x10 ∷ 0x00 ∷ []
 
 -- type identification, cause, common address and observations
 abbrev pub asdu : ℕ → ℕ → ℕ → List Observation → Asdu

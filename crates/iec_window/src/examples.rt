@@ -23,7 +23,8 @@ pub fn receive_numbers()
     ensures edges { map (λ nr. is_right_receive nr (sender_counts 5 (0 ∷ 0 ∷ 0 ∷ []))) (4 ∷ 5 ∷ 6 ∷ 8 ∷ 9 ∷ [])
         ≡ false ∷ true ∷ true ∷ true ∷ false ∷ [] }
     ensures wraps { map (λ nr. is_right_receive nr (sender_counts 32766 (0 ∷ 0 ∷ 0 ∷ [])))
-        (32765 ∷ 32766 ∷ 32767 ∷ 0 ∷ 1 ∷ 2 ∷ 32768 ∷ []) ≡ false ∷ true ∷ true ∷ true ∷ true ∷ false ∷ false ∷ [] }
+        (32765 ∷ 32766 ∷ 32767 ∷ 0 ∷ 1 ∷ 2 ∷ 32768 ∷ [])
+        ≡ false ∷ true ∷ true ∷ true ∷ true ∷ false ∷ false ∷ [] }
     ensures acknowledges { counts_after_s 0 50 (sender_counts 32766 (10 ∷ 20 ∷ 30 ∷ []))
         ≡ record (sender_counts 32768 (30 ∷ [])) { last_heard = 50 } }
     ensures order { answer_to_i 1 1 (counts_at_start usual 0) ≡ Err WrongSend }

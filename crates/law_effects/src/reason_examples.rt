@@ -70,7 +70,8 @@ pub fn refusals_by_example()
     ensures place { refusal_behind (sixteen ++ poll ∷ []) (sends 1 8 set) ≡ None }
     ensures no_place_again { refusal_behind (sixteen ++ poll ∷ sends 1 8 set ∷ []) (sends 0 8 set) ≡ Some NoPlace }
     ensures before_no_place { refusal_behind sixteen (sends 1 8 (switch 1)) ≡ Some NotSelected }
-    ensures negative { map is_negative (Confirm ∷ Negative ∷ Ordered 1 ∷ Unknown ∷ []) ≡ false ∷ true ∷ false ∷ false ∷ [] }
+    ensures negative { map is_negative (Confirm ∷ Negative ∷ Ordered 1 ∷ Unknown ∷ [])
+        ≡ false ∷ true ∷ false ∷ false ∷ [] }
     // A reason is told where the answer is negative, and nowhere else.
     ensures answers { map (λ asdu. answer_behind [] (sends 0 0 asdu)) (switch 0x81 ∷ switch 1 ∷ set ∷ [])
         ≡ Some Confirm ∷ Some Negative ∷ Some (Ordered 1) ∷ [] }

@@ -64,7 +64,8 @@ pub record HandedFront {S : Type 0} (gives : S → Given → S → Type 0) (old 
   pub taken : Appends before after (take count (joined apdus))
 
 -- the run ended with the first that is no APDU; or writing failed; or there may be more
-abbrev pub IsPut : {S : Type 0} → (S → Given → S → Type 0) → S → S → Option (List ℕ) → Option (List ℕ) → Put → Type 0
+abbrev pub IsPut : {S : Type 0} → (S → Given → S → Type 0) → S → S → Option (List ℕ) → Option (List ℕ)
+    → Put → Type 0
 IsPut {S} gives old new before after (Ended last) =
     (mid : S) × (Handed gives old mid before after × gives mid last new × (is_apdu last ≡ false))
 IsPut gives old new before after Unwritten = HandedFront gives old new before after
