@@ -1,5 +1,5 @@
 //! The whole server.
-ghost use Rattle.std.specs.Prelude.{◌≡◌, ◌<◌, IfOk, vec_len};
+ghost use Rattle.std.specs.Prelude.{◌≡◌, ◌<◌, IfOk, IfSome, vec_len};
 ghost use Rattle.std.specs.Thread.{IsSend, IsSync};
 ghost use Rattle.law_running.specs.Kept.{IsKeptRun};
 ghost use Rattle.run_shared.specs.Reached.{IsFirst};
@@ -52,7 +52,27 @@ pub fn serve<R: System, C: Clock + Sync, G: Gate + Sync>(
 ) -> Result<Closed, Memory>
     ensures { IfOk result (λ closed. IsKeptRun settings closed.total) }
 {
-    let journal = journal_of(alloc, &settings, false)?;
+    // Lent, so that what may fail doesn't own them.
+    let mut settings = Some(settings);
+    serve_lent(alloc, rt, &mut settings, listener, sessions, clock, gate)
+}
+
+/// The same, with settings that are taken once all else is there.
+fn serve_lent<R: System, C: Clock + Sync, G: Gate + Sync>(
+    alloc: Global,
+    rt: &R,
+    settings: &mut Option<Settings>,
+    listener: &TcpListener,
+    sessions: Option<u32>,
+    clock: &C,
+    gate: &G,
+) -> Result<Closed, Memory>
+    ensures { IfOk result (λ closed. IfSome settings.old (λ lent. IsKeptRun lent closed.total)) }
+{
+    let journal = match settings {
+        Some(lent) => journal_of(alloc, lent, false)?,
+        None => return Err(Memory),
+    };
     let options = Options {
         identity: NOBODY,
         sessions,
@@ -65,9 +85,10 @@ pub fn serve<R: System, C: Clock + Sync, G: Gate + Sync>(
         values: None,
         events: None,
     };
-    serve_as(
-        alloc, rt, settings, listener, options, &journal, clock, gate,
-    )
+    match settings.take() {
+        Some(taken) => serve_as(alloc, rt, taken, listener, options, &journal, clock, gate),
+        None => Err(Memory),
+    }
 }
 
 /// A journal for a run with these settings; with priorities where each line is to begin with one.
