@@ -5,7 +5,7 @@ ghost use Rattle.std.proofs.Common.{lit≤};
 ghost use Rattle.iec_command.specs.declared.command.Action.TheVariants.{CounterInterrogation, Interrogation, Read};
 ghost use Rattle.iec_command.specs.Example.{double, setpoint, single};
 ghost use Rattle.gw_judge.specs.declared.judging.Judged.TheVariants.{Accepted};
-ghost use Rattle.gw_answers.specs.Answers.{command_by};
+ghost use Rattle.gw_answers.specs.Answers.{command_by, places_for};
 ghost use Rattle.gw_answers.specs.Example.{act, replies, replies_of_two, reply};
 
 /// The answer to an interrogation: confirmation, rows, termination.
@@ -91,6 +91,10 @@ pub fn reads_and_refusals()
         ≡ Some (0x64 ∷ 1 ∷ 0xED ∷ 3 ∷ 0xFF ∷ 0xFF ∷ 0 ∷ 0 ∷ 0 ∷ 0x14 ∷ []) }
     ensures header_alone { reply false (0x67 ∷ 0 ∷ 0 ∷ 0 ∷ 0 ∷ 0 ∷ []) (lit≤ tt)
         ≡ Some (0x67 ∷ 0 ∷ 0x6C ∷ 0 ∷ 0 ∷ 0 ∷ []) }
+    // An execute wants two places, whoever originates it, a select one, and an interrogation that is accepted none.
+    ensures places { map (λ c. places_for false (Accepted c))
+        (record (act (single true false 0 false)) { originator = 9 } ∷ act (single true false 0 true)
+        ∷ act (Interrogation 20) ∷ []) ≡ 2 ∷ 1 ∷ 0 ∷ [] }
     // A command for a control waits for what is said of it.
     ensures command { reply false (0x2D ∷ 1 ∷ 6 ∷ 0 ∷ 1 ∷ 0 ∷ 0x89 ∷ 0x13 ∷ 0 ∷ 0x81 ∷ []) (lit≤ tt) ≡ None }
 {}

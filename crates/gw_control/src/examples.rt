@@ -9,7 +9,8 @@ ghost use Rattle.gw_control.specs.declared.refusal.Refusal.TheVariants.{Qualifie
 ghost use Rattle.gw_control.specs.declared.refusal.Refusal.TheVariants.{OutstationDown, SelectedByAnother};
 ghost use Rattle.gw_control.specs.declared.refusal.Refusal.TheVariants.{NotSelected, UnlikeSelect, NoPlace};
 ghost use Rattle.gw_control.specs.Controls.{answer_of, controls_after_command, controls_after_end};
-ghost use Rattle.gw_control.specs.Controls.{controls_after_ended, controls_after_lost, no_controls, refusal_of};
+ghost use Rattle.gw_control.specs.Controls.{controls_after_ended, controls_after_lost, no_controls};
+ghost use Rattle.gw_control.specs.Controls.{no_controls_after, refusal_of};
 ghost use Rattle.gw_control.specs.Example.{
   after,
   after_end,
@@ -213,6 +214,7 @@ pub fn orders_by_example()
     ensures still_under_way { next (controls_after_end 0 (sent (after (sets 0 (pos 1) ∷ sets 1 (pos 2) ∷ [])))) ≡ None }
     // Numbers go on.
     ensures number { answer_of setup (sets 0 (pos 3)) (after_end 0 (sets 0 (pos 1) ∷ sets 0 (pos 2) ∷ [])) ≡ Ordered 3 }
+    ensures begun_behind { answer_of setup (sets 0 (pos 3)) (no_controls_after 7 setup) ≡ Ordered 8 }
 {}
 
 /// How many orders of a client hold places.

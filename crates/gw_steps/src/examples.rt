@@ -10,7 +10,7 @@ ghost use Rattle.dnp_app.specs.Requests.{read_octets, request};
 ghost use Rattle.iec_apci.specs.Buffer.{buffer};
 ghost use Rattle.iec_apci.specs.declared.apdu.Apdu.TheVariants.{S, U};
 ghost use Rattle.iec_apci.specs.declared.apdu.Signal.TheVariants.{StartAct};
-ghost use Rattle.gw_control.specs.Example.{setup as with_controls, told};
+ghost use Rattle.gw_control.specs.Example.{after as ordered, sets, setup as with_controls, told};
 ghost use Rattle.gw_control.specs.Orders.{nothing_outgoing};
 ghost use Rattle.gw_station.specs.declared.event.Said.TheVariants as saids;
 ghost use Rattle.gw_steps.specs.Controls.{is_control_up, said_of_outcome};
@@ -23,7 +23,8 @@ ghost use Rattle.dnp_master.specs.declared.fate.Fate.TheVariants as fates;
 ghost use Rattle.gw_steps.specs.Effects.{effects_of, no_client};
 ghost use Rattle.gw_steps.specs.Kinds.{kind_in};
 ghost use Rattle.gw_steps.specs.Example.{after_steps, ahead, answer, beginning, connect, control_of, counting, down};
-ghost use Rattle.gw_steps.specs.Example.{echo, ends, event, fragment_of, integrity_answer, interrogate, interrogated};
+ghost use Rattle.gw_steps.specs.Example.{echo, ends, event, first_order, fragment_of, integrity_answer, interrogate};
+ghost use Rattle.gw_steps.specs.Example.{interrogated};
 ghost use Rattle.gw_steps.specs.Example.{last_count, next_reading, operate, outstation_down, outstation_up, poll};
 ghost use Rattle.gw_steps.specs.Example.{pump, pumps, reached, reading, returned, setup, solicited, start, started};
 ghost use Rattle.gw_steps.specs.Example.{starting, starts, three_orders, timed, two_clients, unanswered, up};
@@ -232,6 +233,11 @@ pub fn comings_by_example()
         ≡ kinds.Unknown (record { identification = 103; common_address = 1; address = None }) }
     ensures interrogates { kind_in (100 ∷ 1 ∷ 6 ∷ 0 ∷ 1 ∷ 0 ∷ 0 ∷ 0 ∷ 0 ∷ 20 ∷ []) ≡ kinds.Other }
     ensures polled { (effects_of setup (reached returned) poll).task ≡ Some tasks.Integrity }
+    // An order that waits is given before the integrity poll that is due.
+    ensures ordered { (effects_of with_controls (record (at_first with_controls) {
+      outstations = up ∷ [];
+      controls = ordered (sets 0 (pos 1) ∷ []);
+    }) poll).task ≡ Some (tasks.Command Select (first_order true)) }
     ensures answered { (effects_of setup (reached (returned ++ poll ∷ [])) (fragment_of integrity_answer)).reported
         ≡ Some (record {
           answers = Some tasks.Integrity;

@@ -38,6 +38,8 @@ pub fn timers()
     // The oldest I format counts, and the TESTFR act.
     ensures t1 { map (λ moment. t1_passed moment (sender_counts 0 (1000 ∷ 2000 ∷ []))) (15999 ∷ 16000 ∷ [])
         ≡ false ∷ true ∷ [] }
+    ensures t1_closes { map (λ moment. due_at moment (sender_counts 0 (1000 ∷ 2000 ∷ []))) (15999 ∷ 16000 ∷ [])
+        ≡ due.None ∷ due.Close ∷ [] }
     ensures t1_of_test { map (λ moment. t1_passed moment
         (counts_after_sending_test 4000 (counts_after_sending_test 500 (sender_counts 0 (1000 ∷ [])))))
         (15499 ∷ 15500 ∷ []) ≡ false ∷ true ∷ [] }

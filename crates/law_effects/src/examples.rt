@@ -3,7 +3,11 @@
 
 ghost use Rattle.std.specs.Prelude.{◌≡◌, [], ◌∷◌, ◌++◌, false, map, Some, None, true};
 ghost use Rattle.gw_steps.specs.declared.step.Step.TheVariants as steps;
-ghost use Rattle.gw_steps.specs.Example.{outstation_down, outstation_up, poll, pump};
+ghost use Rattle.gw_steps.specs.declared.step.Reply.TheVariants as replies;
+ghost use Rattle.gw_steps.specs.Example.{event, fragment_of, outstation_down, outstation_up, poll, pump};
+ghost use Rattle.gw_steps.specs.Example.{setup as with_points, started};
+ghost use Rattle.law_history.specs.Example.{history_of};
+ghost use Rattle.law_effects.specs.Endings.{dropped_by};
 ghost use Rattle.law_effects.specs.Replies.{ended_by_fate};
 ghost use Rattle.law_fates.specs.Example.{answers, done, refused, sets, stops};
 ghost use Rattle.law_effects.specs.Example.{
@@ -71,4 +75,9 @@ pub fn endings_by_example()
     ensures in_time { closed_by_tick (pump ∷ done ++ pump ∷ pump ∷ tick 14999 ∷ []) ≡ false }
     ensures passed { closed_by_tick (pump ∷ done ++ pump ∷ pump ∷ tick 15000 ∷ []) ≡ true }
     ensures told { is_client_told (pump ∷ done ++ pump ∷ pump ∷ tick 15000 ∷ []) ≡ true }
+    // Of two news one may wait, so one was dropped: it is told where STOPDT act ends the session, not where it stands.
+    ensures dropped { let narrow = record with_points { station = record with_points.station { queue = 1 } } in
+        let past = history_of narrow (started ++ fragment_of event ∷ outstation_down ∷ []) in
+        dropped_by narrow past stops replies.Taken 0 ∷ dropped_by narrow past poll replies.Nothing 0 ∷ []
+        ≡ 1 ∷ 0 ∷ [] }
 {}
