@@ -179,7 +179,7 @@ impl Capture {
         rt: &R,
         files: &mut Files<W, P>,
     ) -> AwaitedLines {
-        let rung = self.bell.rung();
+        let rung = self.bell.ring_count();
         let (done, awaited) = match self.next(rt, files) {
             Next::Write(lines) => (files.take(lines), AwaitedLines::Nothing),
             Next::Wait => (files.flush(), AwaitedLines::Ring(rung)),

@@ -134,7 +134,7 @@ impl<'a, L: Course, S: Calls<L>, R: Wait, C: Clock, G: Gate> ClientWriter<'a, L,
     /// How often the client's bell was rung.
     pub fn ring_count(&self) -> u64 {
         match self.worker.shared.client_bell(self.client) {
-            Some(bell) => bell.rung(),
+            Some(bell) => bell.ring_count(),
             None => 0,
         }
     }

@@ -190,7 +190,7 @@ impl<
     /// How often the outstation's bell was rung.
     pub fn ring_count(&self) -> u64 {
         match self.worker.shared.outstation_bell(self.outstation) {
-            Some(bell) => bell.rung(),
+            Some(bell) => bell.ring_count(),
             None => 0,
         }
     }

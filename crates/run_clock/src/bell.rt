@@ -22,7 +22,7 @@ impl Bell {
     }
 
     /// How often it was rung.
-    pub fn rung(&self) -> u64 {
+    pub fn ring_count(&self) -> u64 {
         self.rings.notifications()
     }
 
@@ -33,7 +33,7 @@ impl Bell {
 
     /// Waits until it was rung more often than this, or for so long.
     pub fn wait_for(&self, rt: &impl Wait, rung: u64, time: Duration) {
-        if self.rung() == rung {
+        if self.ring_count() == rung {
             self.rings.sleep(rt, rung, time);
         }
     }
@@ -41,7 +41,7 @@ impl Bell {
     /// Waits until it was rung more often than this.
     pub fn wait(&self, rt: &impl Wait, rung: u64) {
         for _ in rt.forever() {
-            if self.rung() != rung {
+            if self.ring_count() != rung {
                 return;
             }
             self.rings

@@ -83,7 +83,7 @@ impl<'a, S: Files<File = File> + AllocGlobal, R: Wait + Sleeps, C: Clock> EventW
 
     /// Writes what waited longest, or waits for something; whether more may come.
     fn write_next(&mut self) -> bool {
-        let rung = self.queue.bell().rung();
+        let rung = self.queue.bell().ring_count();
         let Ok((entries, is_end)) = self.take_next() else {
             self.pause();
             return !self.queue.is_closed(self.system);

@@ -61,8 +61,8 @@ fn request_in(octets: &[u8], query: &mut Query) -> Option<HttpRequest>
             Some(HttpRequest::of(head.method.of(octets), target))
         }
         Ok(Status::Partial) if octets.len() < MOST_OCTETS => None,
-        Ok(Status::Partial) => Some(HttpRequest::refused(RequestFault::TooLong)),
-        Err(Error::TooManyHeaders) => Some(HttpRequest::refused(RequestFault::TooLong)),
-        Err(_) => Some(HttpRequest::refused(RequestFault::Malformed)),
+        Ok(Status::Partial) => Some(HttpRequest::of_refusal(RequestFault::TooLong)),
+        Err(Error::TooManyHeaders) => Some(HttpRequest::of_refusal(RequestFault::TooLong)),
+        Err(_) => Some(HttpRequest::of_refusal(RequestFault::Malformed)),
     }
 }

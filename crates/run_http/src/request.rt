@@ -67,7 +67,7 @@ impl HttpRequest {
     }
 
     /// One that is refused before it is known.
-    pub fn refused(refusal: RequestFault) -> HttpRequest
+    pub fn of_refusal(refusal: RequestFault) -> HttpRequest
         ensures { result ≡ refused refusal }
     {
         HttpRequest {

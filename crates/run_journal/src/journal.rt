@@ -103,7 +103,7 @@ impl Journal {
 
     /// One turn of the thread that writes: writes the next note, if one waits. What it waits for then.
     pub fn turn<R: Wait + Eprint>(&self, rt: &R) -> AwaitedNote {
-        let rung = self.bell.rung();
+        let rung = self.bell.ring_count();
         match self.next(rt) {
             Next::Note(note) => {
                 self.write(rt, &note);

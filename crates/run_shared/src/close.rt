@@ -41,15 +41,15 @@ impl<L: Course, M: Machine> Shared<L, M> {
         if passes.len() != self.actors() {
             return Err((CloseFault::Missing, passes));
         }
-        let mut all = joined(passes);
+        let mut all = join_shares(passes);
         Ok(Closed {
             total: self.total(rt, &mut all),
         })
     }
 }
 
-/// The shares of passes, joined.
-fn joined<L: Course>(passes: Vec<Pass<L>>) -> Share<L>
+/// Joins the shares of passes.
+fn join_shares<L: Course>(passes: Vec<Pass<L>>) -> Share<L>
     requires { 0 < vec_len passes }
     ensures parts { result.parts ≡ vec_len passes }
     ensures amount { result.amount ≡ total_of passes.items }

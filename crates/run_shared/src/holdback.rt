@@ -54,7 +54,7 @@ impl Holdback {
     }
 
     /// How many observations it is reckoned to bring next: as many as last.
-    pub fn brought(&self) -> u64 {
+    pub fn last_count(&self) -> u64 {
         self.brought
     }
 

@@ -149,7 +149,7 @@ impl Pacing {
     /// is due, nor where it has an order that waits or is under way.
     pub fn rest<M: Machine>(&mut self, outstation: u8, machine: &M, moment: u64) -> u64 {
         let may_rest = machine.is_poll_due(outstation) && !has_order(outstation, machine);
-        let brought = self.brought(outstation);
+        let brought = self.last_count(outstation);
         let lacks_room = may_rest && self.lack_room(outstation, brought, machine, moment);
         let Some(service) = self.services.get_mut(usize::from(outstation)) else {
             return 0;
@@ -163,9 +163,9 @@ impl Pacing {
     }
 
     /// How many observations an outstation brought last.
-    fn brought(&self, outstation: u8) -> u64 {
+    fn last_count(&self, outstation: u8) -> u64 {
         match self.services.get(usize::from(outstation)) {
-            Some(service) => service.holdback.brought(),
+            Some(service) => service.holdback.last_count(),
             None => 0,
         }
     }

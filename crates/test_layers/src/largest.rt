@@ -19,7 +19,7 @@ use std::process::Abort;
 use std::test::Fail;
 
 /// Some octets, and then others so many times.
-fn repeated(alloc: Global, front: &[u8], octets: &[u8], times: u16) -> Result<Vec<u8>, Fail> {
+fn repeat(alloc: Global, front: &[u8], octets: &[u8], times: u16) -> Result<Vec<u8>, Fail> {
     let mut all = Vec::from_slice(alloc, front)?;
     for _ in 0..times {
         all.extend_from_slice(octets)?;
@@ -54,7 +54,7 @@ fn check_part(
 /// 511 headers in 2,048 octets, the last with two events.
 #[test]
 fn most_headers(rt: HostRuntime) -> Result<(), Fail> {
-    let mut part = repeated(rt.alloc(), b"", b"\x33\x02\x07\x00", 510)?;
+    let mut part = repeat(rt.alloc(), b"", b"\x33\x02\x07\x00", 510)?;
     part.extend_from_slice(b"\x02\x01\x17\x02\x05\x81\x06\x81")?;
     same(&rt, &part.len(), &2048);
     check_part(&rt, &part, (511, 2, 2, 6))
@@ -63,7 +63,7 @@ fn most_headers(rt: HostRuntime) -> Result<(), Fail> {
 /// One header of 65,536 inputs that are on.
 #[test]
 fn most_objects(rt: HostRuntime) -> Result<(), Fail> {
-    let part = repeated(rt.alloc(), b"\x01\x01\x01\x00\x00\xFF\xFF", b"\xFF", 8192)?;
+    let part = repeat(rt.alloc(), b"\x01\x01\x01\x00\x00\xFF\xFF", b"\xFF", 8192)?;
     check_part(&rt, &part, (1, 65_536, 65_536, 65_535))
 }
 
@@ -93,7 +93,7 @@ fn add_frame(frames: &mut Vec<u8>, segment: &[u8]) -> Result<(), Fail>
 }
 
 /// A fragment in frames.
-fn framed(alloc: Global, fragment: &[u8]) -> Result<Vec<u8>, Fail>
+fn frames_of(alloc: Global, fragment: &[u8]) -> Result<Vec<u8>, Fail>
     requires { length fragment.now ≤ 2048 }
 {
     let mut frames = Vec::new(alloc);
@@ -105,8 +105,8 @@ fn framed(alloc: Global, fragment: &[u8]) -> Result<Vec<u8>, Fail>
 
 /// So many of a fragment in frames, one after another.
 fn stream_of(alloc: Global, fragment: &[u8; FRAGMENT_LIMIT], count: u16) -> Result<Vec<u8>, Fail> {
-    let frames = framed(alloc, fragment)?;
-    repeated(alloc, b"", &frames, count)
+    let frames = frames_of(alloc, fragment)?;
+    repeat(alloc, b"", &frames, count)
 }
 
 fn count_events(alloc: Global, pieces: &[&[u8]]) -> Result<usize, Fail> {
@@ -171,7 +171,7 @@ fn many_largest_responses(rt: HostRuntime) -> Result<(), Fail> {
 #[test]
 fn a_large_piece_of_a_link(rt: HostRuntime) -> Result<(), Fail> {
     let stream = long_stream(&rt, &largest_fragment())?;
-    let piece = repeated(rt.alloc(), b"", &stream, 16)?;
+    let piece = repeat(rt.alloc(), b"", &stream, 16)?;
     same(&rt, &count_events(rt.alloc(), &[&piece])?, &10_912);
     Ok(())
 }
@@ -180,7 +180,7 @@ fn a_large_piece_of_a_link(rt: HostRuntime) -> Result<(), Fail> {
 fn count_in_fragment(rt: &(impl Abort + AllocGlobal), fragment: &[u8]) -> Result<usize, Fail>
     requires { length fragment.now ≤ 2048 }
 {
-    let stream = framed(rt.alloc(), fragment)?;
+    let stream = frames_of(rt.alloc(), fragment)?;
     same(rt, &count_fragments(rt.alloc(), &[&stream])?, &1);
     Ok(read_responses(rt.alloc(), &[&stream])?.len())
 }
@@ -290,13 +290,13 @@ fn longest_fragment(rt: HostRuntime) -> Result<(), Fail> {
     check_unfinished(&rt, &take_all(&mut assembler, &fragment, 8)?);
     check_finished(&rt, &take_all(&mut assembler, &fragment, 9)?, &fragment);
     check_unfinished(&rt, &take_all(&mut assembler, &fragment, 8)?);
-    let segment = repeated(rt.alloc(), b"\xC5", &fragment, 1)?;
+    let segment = repeat(rt.alloc(), b"\xC5", &fragment, 1)?;
     check_finished(&rt, &take(&mut assembler, &segment)?, &fragment);
     Ok(())
 }
 
 /// A feed that was given nothing, and two pieces.
-fn fed(alloc: Global, front: &[u8], behind: &[u8]) -> Result<ApduFeed, Fail> {
+fn feed_of(alloc: Global, front: &[u8], behind: &[u8]) -> Result<ApduFeed, Fail> {
     let mut feed = ApduFeed::new(alloc);
     feed.feed(&[])?;
     feed.feed(front)?;
@@ -324,9 +324,9 @@ fn count_apdus(rt: &(impl Abort + AllocGlobal), pieces: &[&[u8]]) -> Result<usiz
 
 /// 257 of the longest APDUs without the first octet, and the first octet of another.
 fn longest_behind(alloc: Global) -> Result<Vec<u8>, Fail> {
-    let mut behind = repeated(alloc, b"\xFD\x02\x00\x04\x00", b"\x11", 249)?;
+    let mut behind = repeat(alloc, b"\xFD\x02\x00\x04\x00", b"\x11", 249)?;
     behind.push(0x68)?;
-    repeated(alloc, b"", &behind, 257)
+    repeat(alloc, b"", &behind, 257)
 }
 
 /// So many of the longest APDUs come, and nothing behind them.
@@ -341,16 +341,16 @@ fn check_all(rt: &impl Abort, feed: &mut ApduFeed, count: u16) {
 #[test]
 fn longest_apdus(rt: HostRuntime) -> Result<(), Fail> {
     let behind = longest_behind(rt.alloc())?;
-    let stream = repeated(rt.alloc(), b"\x68", &behind, 1)?;
+    let stream = repeat(rt.alloc(), b"\x68", &behind, 1)?;
     same(&rt, &stream.len(), &65_536);
-    check_all(&rt, &mut fed(rt.alloc(), &stream, &behind)?, 514);
+    check_all(&rt, &mut feed_of(rt.alloc(), &stream, &behind)?, 514);
     Ok(())
 }
 
 /// The same 16 times in one piece: a mebibyte.
 #[test]
 fn a_large_piece_of_apdus(rt: HostRuntime) -> Result<(), Fail> {
-    let piece = repeated(rt.alloc(), b"\x68", &longest_behind(rt.alloc())?, 16)?;
+    let piece = repeat(rt.alloc(), b"\x68", &longest_behind(rt.alloc())?, 16)?;
     same(&rt, &count_apdus(&rt, &[&piece])?, &4112);
     Ok(())
 }
@@ -363,7 +363,7 @@ fn count_in_hundreds(rt: &(impl Abort + AllocGlobal), stream: &[u8]) -> Result<u
 /// The same octets in pieces of a hundred.
 #[test]
 fn longest_apdus_in_pieces(rt: HostRuntime) -> Result<(), Fail> {
-    let stream = repeated(rt.alloc(), b"\x68", &longest_behind(rt.alloc())?, 1)?;
+    let stream = repeat(rt.alloc(), b"\x68", &longest_behind(rt.alloc())?, 1)?;
     same(&rt, &count_in_hundreds(&rt, &stream)?, &257);
     Ok(())
 }

@@ -92,7 +92,7 @@ fn replies_of<R: Abort + AllocGlobal>(rt: &R, hub: &mut Hub, lines: &str) -> Vec
 }
 
 /// A hub with an order under way, and one that waits.
-fn ordered<R: Abort + AllocGlobal>(rt: &R) -> Hub {
+fn hub_with_orders<R: Abort + AllocGlobal>(rt: &R) -> Hub {
     let mut hub = hub_at_first(rt);
     replies_of(rt, &mut hub, ORDERED);
     hub
@@ -108,14 +108,14 @@ fn check_next<R: Abort + AllocGlobal>(rt: &R, copy: Hub) {
 
 #[test]
 fn a_copy_keeps_orders(rt: HostRuntime) {
-    let hub = ordered(&rt);
+    let hub = hub_with_orders(&rt);
     check_next(&rt, hub.copy().expect(&rt, "memory"));
     drop(hub);
 }
 
 /// A hub with orders is copied over a spare one.
 fn check_copy_over<R: Abort + AllocGlobal>(rt: &R, spare: Hub) {
-    let hub = ordered(rt);
+    let hub = hub_with_orders(rt);
     check_next(rt, hub.copy_over(spare).expect(rt, "memory"));
     drop(hub);
 }
@@ -127,5 +127,5 @@ fn a_copy_over_another_hub_keeps_orders(rt: HostRuntime) {
 
 #[test]
 fn a_copy_over_a_hub_with_orders_keeps_orders(rt: HostRuntime) {
-    check_copy_over(&rt, ordered(&rt));
+    check_copy_over(&rt, hub_with_orders(&rt));
 }

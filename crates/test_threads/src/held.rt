@@ -101,7 +101,7 @@ impl<'a, R: Clock> Held<'a, R> {
     }
 
     /// A reader has decoded something. Whether it goes on in time.
-    fn decoded(&self, actor: usize) -> bool {
+    fn may_step(&self, actor: usize) -> bool {
         match actor {
             OUTSTATION_0_READER => self.stands(&self.is_decoded),
             CLIENT_1_READER => self.others_stand() && self.is_ticked(),
@@ -110,7 +110,7 @@ impl<'a, R: Clock> Held<'a, R> {
     }
 
     /// A reader has made a step. Whether it goes on in time.
-    fn stepped(&self, actor: usize) -> bool {
+    fn may_go_on(&self, actor: usize) -> bool {
         match actor {
             CLIENT_0_READER => self.steps(&self.stepped_0, self.is_served_0),
             CLIENT_1_READER => self.steps(&self.stepped_1, self.is_served_1),
@@ -165,8 +165,8 @@ impl<'a, R: Clock> Gate for Held<'a, R> {
             return;
         }
         let is_in_time = match place {
-            Place::Decoded => self.decoded(actor),
-            Place::Stepped => self.stepped(actor),
+            Place::Decoded => self.may_step(actor),
+            Place::Stepped => self.may_go_on(actor),
             Place::BeforeWrite => self.writes(actor),
         };
         if !is_in_time {

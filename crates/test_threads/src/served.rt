@@ -34,8 +34,8 @@ fn make<L: Course, R: Wait + Abort + AllocGlobal>(rt: &R, core: &mut TestCore<L>
 }
 
 /// How often the bell of client 0 was rung.
-fn rung<L: Course, S: Calls<L>, R: Abort>(rt: &R, shared: &S) -> u64 {
-    shared.client_bell(0).expect(rt, "a bell").rung()
+fn ring_count<L: Course, S: Calls<L>, R: Abort>(rt: &R, shared: &S) -> u64 {
+    shared.client_bell(0).expect(rt, "a bell").ring_count()
 }
 
 /// The loss of an outstation wakes the writer of a client at once, which sleeps.
@@ -51,9 +51,9 @@ fn lose<L: Course, R: Wait + Abort + AllocGlobal>(rt: &R, opening: Opening)
     let mut core = TestCore::<L>::new(rt.alloc(), opening, 1, 64).expect(rt, "a core");
     let turns: [Turn; 7] = [(0, 0); 7];
     assert!(rt; core.answers_so(rt, &turns, TOLD, TOLD_REPLIES));
-    let before = rung::<L, _, _>(rt, &core.shared);
+    let before = ring_count::<L, _, _>(rt, &core.shared);
     make(rt, &mut core, "down 0 1");
-    let after = rung::<L, _, _>(rt, &core.shared);
+    let after = ring_count::<L, _, _>(rt, &core.shared);
     same(rt, &after.wrapping_sub(before), &1);
     core.total(rt).expect(rt, "all passes");
 }

@@ -18,7 +18,7 @@ impl Outstation {
         let sequence = control & 0x0F;
         log.add("request", &[self.number, u64::from(function)]);
         if function == 0 {
-            self.confirmed(now, control, way, log);
+            self.take_confirmation(now, control, way, log);
             return;
         }
         if !self.awaits_unsolicited() {
@@ -41,14 +41,14 @@ impl Outstation {
     }
 
     /// A confirmation comes.
-    fn confirmed(&mut self, now: u64, control: u8, way: &mut Pipe, log: &Log<'_>) {
+    fn take_confirmation(&mut self, now: u64, control: u8, way: &mut Pipe, log: &Log<'_>) {
         let Some(awaited) = self.awaited else {
-            self.confirmed_again(control, log);
+            self.take_confirmation_again(control, log);
             return;
         };
         let is_unsolicited = control & UNS != 0;
         if awaited.sequence != control & 0x0F || awaited.is_unsolicited != is_unsolicited {
-            self.confirmed_again(control, log);
+            self.take_confirmation_again(control, log);
             return;
         }
         self.awaited = None;
@@ -65,7 +65,7 @@ impl Outstation {
     }
 
     /// A confirmation comes that isn't awaited: of a repetition, or once too often.
-    fn confirmed_again(&mut self, control: u8, log: &Log<'_>) {
+    fn take_confirmation_again(&mut self, control: u8, log: &Log<'_>) {
         if self.owed > 0 && self.repeated == control {
             self.owed -= 1;
             log.add("again", &[self.number]);

@@ -1,7 +1,7 @@
 -- What is joined and what is left are all the passes.
 use Rattle.std.proofs.Common.{◌≡◌, ◌+◌, vec_len}
 use Rattle.run_shared.specs.Totals.{total_of}
-use Rattle.run_shared.proofs.close.joined.Given as goal
+use Rattle.run_shared.proofs.close.join_shares.Given as goal
 
 abbrev pub invariant-loop-pass : goal.invariant-loop-pass
 invariant-loop-pass g l = record {
